@@ -38,6 +38,10 @@ unfoldable pub _⊟_ : List ℕ → List ℕ → List ℕ
 unfoldable pub Enabled : Transition → Marking → Type 0
 Enabled t m = t .taken ⊑ m
 
+-- What may stand in the places beside the weights taken: any vector over as many places.
+unfoldable pub Room : Transition → List ℕ → Type 0
+Room t x = length x ≡ length (t .taken)
+
 -- Firing it subtracts the weights taken and adds the weights put.
 unfoldable pub fire : Transition → Marking → Marking
 fire t m = (m ⊟ t .taken) ⊞ t .put

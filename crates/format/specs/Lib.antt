@@ -1,0 +1,5 @@
+pub mod Read
+pub mod Contents
+pub mod Reading
+pub mod Formed
+pub mod Encoding

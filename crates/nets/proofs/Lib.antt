@@ -1,0 +1,7 @@
+pub mod Vectors
+pub mod Theorem1
+pub mod Theorem7
+pub mod Consequence
+pub mod Verdict
+pub mod ReducedForm
+pub mod MarkedNets

@@ -1,0 +1,26 @@
+-- `fields::whole` meets its contract: what is left from `at` on is the length less `at`.
+use borrow.Author.Tests.{lt-leb, le-leb, eq-eqb, ne-eqb}
+use native.Mathlib.Omega.{arith}
+use Prim.Native.Nat.{_+_}
+use lib.ListN.{length, getD}
+use borrow.Author.Needs.{needs}
+use Rattle.format.specs.Reading.{wholeAt}
+use Rattle.reader.proofs.fields.whole.Statement.{statement}
+use Rattle.reader.proofs.fields.whole.Tie as tie
+
+sub-if1 : tie.Need-sub-if1
+sub-if1 c = search needs
+
+refuse-requires : tie.Need-refuse-requires
+refuse-requires c κs = search needs
+
+returns : tie.Need-returns
+unfolding wholeAt
+returns c = simp (lt-leb (c .before .before .args .at + c .before .before .args .size) (length (c .before .before .args .s .now)) (omega arith)) (c .refuse .ensures)
+
+returns-2 : tie.Need-returns-2
+unfolding wholeAt
+returns-2 c = simp (le-leb (c .before .args .at + c .before .args .size) (length (c .before .args .s .now)) (omega arith))
+
+pub whole-spec : {M : Type 1} → statement M
+whole-spec = tie.close (tie.spec sub-if1 refuse-requires returns returns-2)

@@ -1,0 +1,30 @@
+-- What the calls answer, over what the sheet is read as.
+use mathlib.Core.List.{List}
+use Prim.Native.Nat.{ℕ}
+use lib.ListN.{length}
+use Rattle.format.specs.Read.{Read, sound, refused}
+use Rattle.format.specs.Contents.{Claim, Contents}
+use Rattle.format.specs.Reading.{Size}
+use Rattle.reader.specs.declared.Check.{Check}
+use Rattle.reader.specs.declared.Check.the-variants.{Fine, Refused}
+use Rattle.reader.specs.declared.Counts.{Counts}
+use Rattle.reader.specs.declared.Reading.{Reading}
+use Rattle.reader.specs.declared.Reading.the-variants.{Sound, Malformed}
+
+-- fine, or the refusal
+abbrev pub checked : {A : Type 0} → Read A → Check
+checked (sound a) = Fine
+checked (refused r) = Refused r
+
+-- the counts are the sheet's
+abbrev pub countsOf : Contents → Counts
+countsOf x = record { places = x .setting .net .places; transitions = length (x .setting .net .transitions); claims = length (x .claims) }
+
+-- the counts, once the net's size is known
+abbrev pub countedOf : Size → Read (List Claim) → Reading
+countedOf z (sound is) = Sound (record { places = z .n; transitions = z .T; claims = length is })
+countedOf z (refused r) = Malformed r
+
+abbrev pub answerOf : Read Contents → Reading
+answerOf (sound x) = Sound (countsOf x)
+answerOf (refused r) = Malformed r

@@ -1,0 +1,42 @@
+// The reader of sheets: document 01, "What the sheet holds" and "Numbers that say no".
+ghost use mathlib.Core.Path.{_≡_};
+ghost use Rattle.format.specs.Reading.{reading};
+ghost use Rattle.reader.specs.Answers.{answerOf};
+
+mod fields; // fields.rt: marks, lengths and fields of one kind
+mod records; // records.rt: one record of each kind
+mod runs; // runs.rt: records of one kind, one after the other
+
+use records::front;
+use runs::claims;
+use terms::Refusal;
+
+// A part of a sheet is fine, or refused at its first fault.
+pub enum Check {
+    Fine,
+    Refused(Refusal),
+}
+
+pub struct Counts {
+    pub places: usize,
+    pub transitions: usize,
+    pub claims: usize,
+}
+
+pub enum Reading {
+    Sound(Counts),
+    Malformed(Refusal),
+}
+
+// Reads a sheet, left to right and once: its counts, or the refusal of its first fault.
+pub fn read(sheet: &[u8]) -> Reading
+    ensures { λ r. ⌜ r ≡ answerOf (reading (now (sheet .entry))) ⌝ }
+{
+    let up_to_target = front(sheet);
+    if let Check::Refused(r) = up_to_target {
+        return Reading::Malformed(r);
+    }
+    let n = sheet[2] as usize;
+    let t = sheet[3] as usize;
+    claims(sheet, n, t)
+}

@@ -1,0 +1,128 @@
+// One record of each kind, and the records from NP to TG.
+ghost use mathlib.Core.Path.{_≡_};
+ghost use Prim.Native.Nat.{_+_, _*_, _≤_};
+ghost use lib.ListN.{length};
+ghost use Rattle.format.specs.Reading.{sizeOf, headOf, transitionAt, startAt, targetAt, claimAt, startFrom, settingOf, frontOf};
+ghost use Rattle.reader.specs.Answers.{checked};
+use super::Check;
+use super::fields::coefficients;
+use super::fields::constant;
+use super::fields::marked;
+use super::fields::opened;
+use super::fields::refuse;
+use super::fields::weights;
+use super::fields::whole;
+use super::runs::transitions;
+use terms::Place;
+use terms::Transition;
+
+// NP: the numbers of places and transitions.
+fn head(s: &[u8]) -> Check
+    ensures { λ r. ⌜ r ≡ checked (headOf (now (s .entry))) ⌝ }
+{
+    let open = opened(s, 0, b'N', b'P', 4);
+    let Check::Fine = open else {
+        return open;
+    };
+    let n = s[2] as usize;
+    if n < 1 {
+        return refuse(3, 2);
+    }
+    if Place::MOST < n {
+        return refuse(3, 2);
+    }
+    let t = s[3] as usize;
+    if Transition::MOST < t {
+        return refuse(3, 3);
+    }
+    Check::Fine
+}
+
+// TR: the weights taken and put.
+pub fn transition(s: &[u8], n: usize, at: usize) -> Check
+    requires { ⌜ (n ≤ 16) × (at ≤ length (now s)) ⌝ }
+    ensures { λ r. ⌜ r ≡ checked (transitionAt (now (s .entry)) n at) ⌝ }
+{
+    let open = opened(s, at, b'T', b'R', 2 + 2 * n);
+    let Check::Fine = open else {
+        return open;
+    };
+    weights(s, at + 2, 2 * n)
+}
+
+// MK: the start.
+fn start(s: &[u8], n: usize, at: usize) -> Check
+    requires { ⌜ (n ≤ 16) × (at ≤ length (now s)) ⌝ }
+    ensures { λ r. ⌜ r ≡ checked (startAt (now (s .entry)) n at) ⌝ }
+{
+    opened(s, at, b'M', b'K', 2 + 2 * n)
+}
+
+// TG: the kind and the target.
+fn target(s: &[u8], n: usize, at: usize) -> Check
+    requires { ⌜ (n ≤ 16) × (at ≤ length (now s)) ⌝ }
+    ensures { λ r. ⌜ r ≡ checked (targetAt (now (s .entry)) n at) ⌝ }
+{
+    let open = opened(s, at, b'T', b'G', 3 + 2 * n);
+    let Check::Fine = open else {
+        return open;
+    };
+    if 1 < s[at + 2] {
+        return refuse(5, at + 2);
+    }
+    Check::Fine
+}
+
+// HS, behind its mark: the coefficients and the constant. How many claims came before plays no part here.
+pub fn claim(s: &[u8], n: usize, at: usize) -> Check
+    requires { ⌜ (n ≤ 16) × (at ≤ length (now s)) ⌝ }
+    ensures { λ r. ⌜ r ≡ checked (claimAt (now (s .entry)) n at) ⌝ }
+{
+    let all = whole(s, at, 4 + n);
+    let Check::Fine = all else {
+        return all;
+    };
+    let each = coefficients(s, at + 2, n);
+    let Check::Fine = each else {
+        return each;
+    };
+    constant(s, at + 2 + n)
+}
+
+// The first byte behind the transitions.
+pub fn start_from(n: usize, t: usize) -> usize
+    requires { ⌜ (n ≤ 16) × (t ≤ 64) ⌝ }
+    ensures { λ r. ⌜ (r ≡ startFrom (sizeOf n t)) × (r ≤ 2180) ⌝ }
+{
+    4 + t * (2 + 2 * n)
+}
+
+// TR to TG.
+fn setting(s: &[u8], n: usize, t: usize) -> Check
+    requires { ⌜ (n ≤ 16) × (t ≤ 64) × (4 ≤ length (now s)) ⌝ }
+    ensures { λ r. ⌜ r ≡ checked (settingOf (now (s .entry)) (sizeOf n t)) ⌝ }
+{
+    let net = transitions(s, n, t);
+    let Check::Fine = net else {
+        return net;
+    };
+    let at = start_from(n, t);
+    let marking = start(s, n, at);
+    let Check::Fine = marking else {
+        return marking;
+    };
+    target(s, n, at + 2 + 2 * n)
+}
+
+// NP to TG.
+pub fn front(s: &[u8]) -> Check
+    ensures { λ r. ⌜ r ≡ checked (frontOf (now (s .entry))) ⌝ }
+{
+    let first = head(s);
+    let Check::Fine = first else {
+        return first;
+    };
+    let n = s[2] as usize;
+    let t = s[3] as usize;
+    setting(s, n, t)
+}

@@ -1,0 +1,33 @@
+-- Which values a field may hold: document 01, "What the sheet holds".
+use mathlib.Core.Bool.{Bool, cond, false}
+use Prim.Native.Nat.{ℕ}
+use lib.Dec.{leb}
+use lib.IntN.{ℤ, pos, negsuc}
+use lib.Signed.{leZ, ltZ}
+
+-- n, 1 to 16, and T, 0 to 64
+abbrev pub placesFit : ℕ → Bool
+placesFit n = cond (leb 1 n) (leb n 16) false
+
+abbrev pub transitionsFit : ℕ → Bool
+transitionsFit t = leb t 64
+
+-- weights, 0 to 9
+abbrev pub weightFits : ℕ → Bool
+weightFits w = leb w 9
+
+-- coefficients, -100 to 100
+abbrev pub coefficientFits : ℤ → Bool
+coefficientFits k = cond (ltZ k (negsuc 99)) false (leZ k (pos 100))
+
+-- the constant, -5,000 to 5,000
+abbrev pub constantFits : ℤ → Bool
+constantFits c = cond (ltZ c (negsuc 4999)) false (leZ c (pos 5000))
+
+-- kinds, 0 and 1
+abbrev pub kindFits : ℕ → Bool
+kindFits k = leb k 1
+
+-- claims, at most 32
+abbrev pub mostClaims : ℕ
+mostClaims = 32

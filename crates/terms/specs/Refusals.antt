@@ -1,0 +1,31 @@
+-- Refusals: document 01, "Numbers that say no". Each has its number and a detail.
+use Prim.Native.Nat.{ℕ}
+use Rattle.terms.specs.declared.Place.{Place}
+use Rattle.terms.specs.declared.Transition.{Transition}
+use Rattle.terms.specs.declared.Claim.{Claim}
+use Rattle.terms.specs.declared.Refusal.{Refusal}
+use Rattle.terms.specs.declared.Detail.{Detail}
+use Rattle.terms.specs.declared.Detail.the-variants.{Byte, Length, OfClaim, OfTransition, OfPlace, Nothing}
+
+-- the number that the table gives as a detail
+abbrev pub detailOf : Detail → ℕ
+detailOf (Byte at) = at
+detailOf (Length n) = n
+detailOf (OfClaim i) = i .0
+detailOf (OfTransition t) = t .0
+detailOf (OfPlace p) = p .0
+detailOf Nothing = 0
+
+-- the refusal `number` at the byte `at`, counted from 0
+abbrev pub refusedAt : ℕ → ℕ → Refusal
+refusedAt number at = record { number = number; detail = Byte at }
+
+-- 9, with the sheet's length; 11, with the claim number asked; 12, with the transition number asked
+abbrev pub noClaim : ℕ → Refusal
+noClaim n = record { number = 9; detail = Length n }
+
+abbrev pub notAClaim : Claim → Refusal
+notAClaim i = record { number = 11; detail = OfClaim i }
+
+abbrev pub notATransition : Transition → Refusal
+notATransition t = record { number = 12; detail = OfTransition t }

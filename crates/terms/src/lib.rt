@@ -1,0 +1,145 @@
+// The words of document 01 as types: numbers of places, transitions and claims, the limits of each field, and refusals.
+ghost use mathlib.Core.Path.{_≡_};
+ghost use Rattle.signed.specs.Twos.{twos8, twos16};
+ghost use Rattle.terms.specs.Limits.{placesFit, transitionsFit, weightFits, coefficientFits, constantFits};
+ghost use Rattle.terms.specs.Refusals.{detailOf, refusedAt};
+
+// Places, transitions and claims are counted apart, each from 1: none is ever taken for another.
+pub struct Place(pub usize);
+
+pub struct Transition(pub usize);
+
+pub struct Claim(pub usize);
+
+impl Place {
+    pub const MOST: usize = 16;
+}
+
+impl Transition {
+    pub const MOST: usize = 64;
+}
+
+impl Claim {
+    pub const MOST: usize = 32;
+}
+
+// A weight taken or put.
+pub struct Weight(pub u8);
+
+impl Weight {
+    pub const MOST: u8 = 9;
+
+    pub fn fits(self) -> bool
+        ensures { λ r. ⌜ r ≡ weightFits (self .0) ⌝ }
+    {
+        self.0 <= Weight::MOST
+    }
+}
+
+// A coefficient of a half space, read from its byte as two's complement.
+pub struct Coefficient(pub i8);
+
+impl Coefficient {
+    pub const LEAST: i8 = -100;
+
+    pub const MOST: i8 = 100;
+
+    pub fn of_byte(b: u8) -> Coefficient
+        ensures { λ r. ⌜ r .0 ≡ twos8 b ⌝ }
+    {
+        if b < 128 {
+            let k = b as i8;
+            Coefficient(k)
+        } else {
+            let w = b as i16;
+            let d = w - 256;
+            let k = d as i8;
+            Coefficient(k)
+        }
+    }
+
+    pub fn fits(self) -> bool
+        ensures { λ r. ⌜ r ≡ coefficientFits (self .0) ⌝ }
+    {
+        if self.0 < Coefficient::LEAST {
+            false
+        } else {
+            self.0 <= Coefficient::MOST
+        }
+    }
+}
+
+// The constant of a half space, read from its two bytes as two's complement, the low byte first.
+pub struct Constant(pub i16);
+
+impl Constant {
+    pub const LEAST: i16 = -5000;
+
+    pub const MOST: i16 = 5000;
+
+    pub fn of_bytes(lo: u8, hi: u8) -> Constant
+        ensures { λ r. ⌜ r .0 ≡ twos16 lo hi ⌝ }
+    {
+        let v = (lo as u32) + 256 * (hi as u32);
+        if hi < 128 {
+            let c = v as i16;
+            Constant(c)
+        } else {
+            let w = v as i32;
+            let d = w - 65536;
+            let c = d as i16;
+            Constant(c)
+        }
+    }
+
+    pub fn fits(self) -> bool
+        ensures { λ r. ⌜ r ≡ constantFits (self .0) ⌝ }
+    {
+        if self.0 < Constant::LEAST {
+            false
+        } else {
+            self.0 <= Constant::MOST
+        }
+    }
+}
+
+// What a refusal's detail counts.
+pub enum Detail {
+    Byte(usize),
+    Length(usize),
+    OfClaim(Claim),
+    OfTransition(Transition),
+    OfPlace(Place),
+    Nothing,
+}
+
+pub struct Refusal {
+    pub number: u8,
+    pub detail: Detail,
+}
+
+impl Refusal {
+    pub fn at_byte(number: u8, at: usize) -> Refusal
+        ensures { λ r. ⌜ r ≡ refusedAt number at ⌝ }
+    {
+        Refusal {
+            number,
+            detail: Detail::Byte(at),
+        }
+    }
+
+    // The detail as a number, to print it.
+    pub fn value(self) -> usize
+        ensures { λ r. ⌜ r ≡ detailOf (self .detail) ⌝ }
+    {
+        let detail = self.detail;
+        match detail {
+            Detail::Byte(at) => at,
+            Detail::Length(n) => n,
+            Detail::OfClaim(i) => i.0,
+            Detail::OfTransition(t) => t.0,
+            Detail::OfPlace(p) => p.0,
+            Detail::Nothing => 0,
+        }
+    }
+}
