@@ -1,28 +1,45 @@
--- What a check's answer tells of the part that was read: it is fine exactly where the part is sound, and passes on its refusal.
-use mathlib.Core.Path.{_≡_, refl, sym, ap, _∙_}
+-- What a check's answer tells of the part that it checked: it is fine exactly where the part is sound, and it passes a refusal on.
+use mathlib.Core.Path.{_≡_, refl, sym, ap, subst, _∙_}
 use mathlib.Core.Bool.{Bool, true, false}
-use Prim.Native.Nat.{ℕ}
+use mathlib.Core.List.{List}
+use Prim.Native.Nat.{ℕ, _+_, _≤_}
 use native.Mathlib.Omega.{arith}
+use lib.Dec.{leb}
+use lib.ListN.{length}
+use borrow.Author.Tests.{leb-true}
 use Rattle.terms.specs.declared.Refusal.{Refusal}
-use Rattle.terms.specs.Refusals.{refusedAt}
 use Rattle.format.specs.Read.{Read, sound, refused, _>>=_, _>>_, need}
+use Rattle.format.specs.Reading.{markedAt, wholeAt, openedAt}
 use Rattle.reader.specs.Answers.{checked}
 use Rattle.reader.specs.declared.Check.{Check}
 use Rattle.reader.specs.declared.Check.the-variants.{Fine, Refused}
 
+pub fine-not-refused : {r : Refusal} → Fine ≡ Refused r → ⊥
+fine-not-refused {r} e = let z : _≡_ {A = ℕ} 0 1 = cc in omega arith
+
 pub fine : {A : Type 0} (x : Read A) → checked x ≡ Fine → (a : A) × (x ≡ sound a)
 fine (sound a) e = (a, refl)
-fine (refused r) e = let z : _≡_ {A = ℕ} 0 1 = cc in absurd (omega arith)
+fine (refused r) e = absurd (fine-not-refused (sym e))
 
 pub turned : {A : Type 0} (x : Read A) {r : Refusal} → checked x ≡ Refused r → x ≡ refused r
-turned (sound a) e = let z : _≡_ {A = ℕ} 0 1 = cc in absurd (omega arith)
+turned (sound a) e = absurd (fine-not-refused e)
 turned (refused q) e = cc
 
--- what comes after a sound part, and after a refused one
-pub after-sound : {A B : Type 0} {x : Read A} {a : A} (f : A → Read B) → x ≡ sound a → checked (x >>= f) ≡ checked (f a)
-after-sound f e = rw e
+-- one part after another: a refusal stops there, and behind a fine part the rest decides
+module _ {A B : Type 0} (x : Read A) {k : Check} (is : k ≡ checked x) where
+  pub stop-then : {r : Refusal} (y : Read B) → k ≡ Refused r → k ≡ checked (x >> y)
+  stop-then y e = e ∙ ap (λ (x : Read A). checked (x >> y)) (sym (turned x (sym is ∙ e)))
 
--- a check and then a value is as fine as the check
+  pub stop-bind : {r : Refusal} (f : A → Read B) → k ≡ Refused r → k ≡ checked (x >>= f)
+  stop-bind f e = e ∙ ap (λ (x : Read A). checked (x >>= f)) (sym (turned x (sym is ∙ e)))
+
+  pub go-then : (y : Read B) → k ≡ Fine → (x >> y) ≡ y
+  go-then y e = ap (λ (x : Read A). x >> y) (fine x (sym is ∙ e) .1)
+
+  pub go-bind : (f : A → Read B) (e : k ≡ Fine) → (x >>= f) ≡ f (fine x (sym is ∙ e) .0)
+  go-bind f e = ap (λ (x : Read A). x >>= f) (fine x (sym is ∙ e) .1)
+
+-- a value that follows changes no answer
 pub then-sound : {A B : Type 0} (x : Read A) (b : B) → checked (x >> sound b) ≡ checked x
 then-sound (sound a) b = refl
 then-sound (refused r) b = refl
@@ -30,3 +47,20 @@ then-sound (refused r) b = refl
 pub map-sound : {A B : Type 0} (x : Read A) (f : A → B) → checked (x >>= λ a. sound (f a)) ≡ checked x
 map-sound (sound a) f = refl
 map-sound (refused r) f = refl
+
+-- where a record is whole it ends within the sheet
+pub need-fine : (t : Bool) (number at : ℕ) → checked (need t number at) ≡ Fine → t ≡ true
+need-fine true number at e = refl
+need-fine false number at e = absurd (fine-not-refused (sym e))
+
+pub then-fine : {A B : Type 0} (x : Read A) (y : Read B) → checked (x >> y) ≡ Fine → checked y ≡ Fine
+then-fine (sound a) y e = e
+then-fine (refused r) y e = absurd (fine-not-refused (sym e))
+
+pub whole-fits : (s : List ℕ) (at size : ℕ) → checked (wholeAt s at size) ≡ Fine → at + size ≤ length s
+unfolding wholeAt
+whole-fits s at size e = leb-true (at + size) (length s) (need-fine (leb (at + size) (length s)) 1 at e)
+
+pub opened-fits : (s : List ℕ) (at first second size : ℕ) → checked (openedAt s at first second size) ≡ Fine → at + size ≤ length s
+unfolding openedAt
+opened-fits s at first second size e = whole-fits s at size (then-fine (markedAt s at first second) (wholeAt s at size) e)

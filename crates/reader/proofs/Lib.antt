@@ -1,2 +1,4 @@
 pub mod Checks
 pub mod Each
+pub mod Turns
+pub mod Sheet

@@ -4,6 +4,7 @@ use mathlib.Core.Bool.{true, false}
 use mathlib.Core.List.{List}
 use Prim.Native.Nat.{ℕ, _+_, _≤_, _-_}
 use native.Mathlib.Omega.{arith}
+use borrow.Author.Tests.{not-true, not-false}
 use lib.ListN.{length}
 use Rattle.format.specs.Read.{Read}
 use Rattle.format.specs.Reading.{eachFits}
@@ -48,7 +49,7 @@ returns : tie.Need-returns Inv-loop μ-loop
 returns c =
     let l = c .before .before .before .before .before .before .loop in
     let a = c .before .before .before .before .before .before .before .before .args in
-    let e : c .before .before .fits2 .result ≡ false = c .before .if1 .taken in
+    let e : c .before .before .fits2 .result ≡ false = not-true (c .before .before .fits2 .result) (c .before .if1 .taken) in
     c .refuse .ensures ∙ sym (l .inv .2 ∙ ap checked (each-stop (λ b. coefficientFits (twos8 b)) 6 (a .s .now) (l .at) (a .from + a .count) (omega arith) (ap coefficientFits (sym (c .before .before .before .of-byte .ensures)) ∙ sym (c .before .before .fits2 .ensures) ∙ e)))
 
 add-at : tie.Need-add-at Inv-loop μ-loop
@@ -61,7 +62,7 @@ loop-again : tie.Need-loop-again Inv-loop μ-loop
 loop-again c =
     let l = c .before .before .before .before .before .loop in
     let a = c .before .before .before .before .before .before .before .args in
-    let e : c .before .fits2 .result ≡ true = c .if1 .left in
+    let e : c .before .fits2 .result ≡ true = not-false (c .before .fits2 .result) (c .if1 .left) in
     (omega arith, omega arith, l .inv .2 ∙ ap checked (each-step (λ b. coefficientFits (twos8 b)) 6 (a .s .now) (l .at) (a .from + a .count) (omega arith) (ap coefficientFits (sym (c .before .before .of-byte .ensures)) ∙ sym (c .before .fits2 .ensures) ∙ e)))
 
 returns-2 : tie.Need-returns-2 Inv-loop μ-loop

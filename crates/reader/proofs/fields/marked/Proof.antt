@@ -1,53 +1,66 @@
+-- `fields::marked` meets its contract: at each return the tests on the way are those of the definition.
+use borrow.Author.Tests.{le-leb, lt-leb, eq-eqb, ne-eqb}
+use native.Mathlib.Omega.{arith}
+use Prim.Native.Nat.{_+_}
+use lib.ListN.{length}
+use Rattle.format.specs.Reading.{byte, markedAt}
 use borrow.Author.Needs.{needs}
 use Rattle.reader.proofs.fields.marked.Statement.{statement}
 use Rattle.reader.proofs.fields.marked.Tie as tie
-use Rattle.reader.proofs.fields.marked.Reads as reads
-use Rattle.reader.proofs.fields.marked.Lts as lts
-use Rattle.reader.proofs.fields.refuse.Reads as refuse-reads
 
--- src/fields.rt:28:8
 sub-if1 : tie.Need-sub-if1
 sub-if1 c = search needs
 
--- src/fields.rt:29:9
 refuse-requires : tie.Need-refuse-requires
 refuse-requires c κs = search needs
 
--- src/fields.rt:29:9
 returns : tie.Need-returns
-returns c = ?
+unfolding markedAt
+returns c =
+    let a = c .before .before .before .args in
+    simp (lt-leb (a .at + 2) (length (a .s .now)) (omega arith)) (c .refuse .ensures)
 
--- src/fields.rt:31:8
 shared-slice-read-if2 : tie.Need-shared-slice-read-if2
 shared-slice-read-if2 c = search needs
 
--- src/fields.rt:32:9
 refuse-requires-2 : tie.Need-refuse-requires-2
 refuse-requires-2 c κs = search needs
 
--- src/fields.rt:32:9
 returns-2 : tie.Need-returns-2
-returns-2 c = ?
+unfolding markedAt
+returns-2 c =
+    let a = c .before .before .before .before .before .args in
+    simp (le-leb (a .at + 2) (length (a .s .now)) (omega arith), ne-eqb (byte (a .s .now) (a .at)) (a .first) (c .before .if2 .taken)) (c .refuse2 .ensures)
 
--- src/fields.rt:34:10
 add-if3 : tie.Need-add-if3
 add-if3 c = search needs
 
--- src/fields.rt:34:8
 shared-slice-read-if3 : tie.Need-shared-slice-read-if3
 shared-slice-read-if3 c = search needs
 
--- src/fields.rt:35:9
 refuse-requires-3 : tie.Need-refuse-requires-3
 refuse-requires-3 c κs = search needs
 
--- src/fields.rt:35:9
 returns-3 : tie.Need-returns-3
-returns-3 c = ?
+unfolding markedAt
+returns-3 c =
+    let a = c .before .before .before .before .before .before .before .args in
+    simp (
+      le-leb (a .at + 2) (length (a .s .now)) (omega arith),
+      eq-eqb (byte (a .s .now) (a .at)) (a .first) (c .before .before .before .if2 .left),
+      ne-eqb (byte (a .s .now) (a .at + 1)) (a .second) (c .before .if3 .taken),
+    )
+    (c .refuse3 .ensures)
 
--- src/fields.rt:24:1
 returns-4 : tie.Need-returns-4
-returns-4 c = ?
+unfolding markedAt
+returns-4 c =
+    let a = c .before .before .before .before .before .before .args in
+    simp (
+      le-leb (a .at + 2) (length (a .s .now)) (omega arith),
+      eq-eqb (byte (a .s .now) (a .at)) (a .first) (c .before .before .if2 .left),
+      eq-eqb (byte (a .s .now) (a .at + 1)) (a .second) (c .if3 .left),
+    )
 
 pub marked-spec : {M : Type 1} → statement M
 marked-spec =

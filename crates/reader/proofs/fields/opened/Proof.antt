@@ -1,33 +1,35 @@
+-- `fields::opened` meets its contract: the mark's refusal stops it, and behind a mark the length decides.
+use mathlib.Core.Path.{_∙_, sym, ap}
+use Rattle.format.specs.Reading.{markedAt, wholeAt, openedAt}
+use Rattle.reader.specs.Answers.{checked}
+use Rattle.reader.proofs.Checks.{stop-then, go-then}
 use borrow.Author.Needs.{needs}
 use Rattle.reader.proofs.fields.opened.Statement.{statement}
 use Rattle.reader.proofs.fields.opened.Tie as tie
-use Rattle.reader.proofs.fields.opened.Reads as reads
-use Rattle.reader.proofs.fields.opened.Lts as lts
-use Rattle.reader.proofs.fields.marked.Reads as marked-reads
-use Rattle.reader.proofs.fields.whole.Reads as whole-reads
 
--- src/fields.rt:55:9
 marked-requires : tie.Need-marked-requires
 marked-requires c κs = search needs
 
 enum-told : tie.Need-enum-told
 enum-told c = search needs
 
--- src/fields.rt:57:9
 enum-told-2 : tie.Need-enum-told-2
 enum-told-2 c = search needs
 
--- src/fields.rt:57:9
 returns : tie.Need-returns
-returns c = ?
+unfolding openedAt
+returns c =
+    let a = c .before .before .before .before .args in
+    stop-then (markedAt (a .s .now) (a .at) (a .first) (a .second)) (c .before .before .marked .ensures) (wholeAt (a .s .now) (a .at) (a .size)) (c .enum-told2 .given .1)
 
--- src/fields.rt:59:5
 whole-requires : tie.Need-whole-requires
 whole-requires c κs = search needs
 
--- src/fields.rt:51:1
 returns-2 : tie.Need-returns-2
-returns-2 c = ?
+unfolding openedAt
+returns-2 c =
+    let a = c .before .before .before .before .before .args in
+    c .whole .ensures ∙ ap checked (sym (go-then (markedAt (a .s .now) (a .at) (a .first) (a .second)) (c .before .before .before .marked .ensures) (wholeAt (a .s .now) (a .at) (a .size)) (c .before .enum-told .given .1)))
 
 pub opened-spec : {M : Type 1} → statement M
 opened-spec =

@@ -16,11 +16,15 @@ refuse-requires c κs = search needs
 
 returns : tie.Need-returns
 unfolding wholeAt
-returns c = simp (lt-leb (c .before .before .args .at + c .before .before .args .size) (length (c .before .before .args .s .now)) (omega arith)) (c .refuse .ensures)
+returns c =
+    let a = c .before .before .before .args in
+    simp (lt-leb (a .at + a .size) (length (a .s .now)) (omega arith)) (c .refuse .ensures)
 
 returns-2 : tie.Need-returns-2
 unfolding wholeAt
-returns-2 c = simp (le-leb (c .before .args .at + c .before .args .size) (length (c .before .args .s .now)) (omega arith))
+returns-2 c =
+    let a = c .before .before .args in
+    simp (le-leb (a .at + a .size) (length (a .s .now)) (omega arith))
 
 pub whole-spec : {M : Type 1} → statement M
 whole-spec = tie.close (tie.spec sub-if1 refuse-requires returns returns-2)

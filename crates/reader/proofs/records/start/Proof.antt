@@ -1,0 +1,27 @@
+-- `records::start` meets its contract: it is fine where it opens.
+use mathlib.Core.Path.{_≡_, _∙_, sym, ap}
+use Prim.Native.Nat.{_+_, _*_}
+use Rattle.format.specs.Reading.{byte, words, transitionIn, targetIn, claimIn, signedWord, eachFits, markedAt, wholeAt, openedAt, headOf, transitionAt, startAt, targetAt, claimAt, claimDue}
+use Rattle.reader.specs.Answers.{checked}
+use Rattle.reader.proofs.Checks.{stop-then, go-then, then-sound, opened-fits, whole-fits}
+use borrow.Author.Needs.{needs}
+use Rattle.reader.proofs.records.start.Statement.{statement}
+use Rattle.reader.proofs.records.start.Tie as tie
+
+mul-opened : tie.Need-mul-opened
+mul-opened c = search needs
+
+add-opened : tie.Need-add-opened
+add-opened c = search needs
+
+opened-requires : tie.Need-opened-requires
+opened-requires c κs = search needs
+
+returns : tie.Need-returns
+unfolding startAt
+returns c =
+    let a = c .before .before .args in
+    c .opened .ensures ∙ sym (then-sound (openedAt (a .s .now) (a .at) 0x4D 0x4B (2 + 2 * a .n)) (words (a .s .now) (a .at + 2) (a .n)))
+
+pub start-spec : {M : Type 1} → statement M
+start-spec = tie.close (tie.spec mul-opened add-opened opened-requires returns)
