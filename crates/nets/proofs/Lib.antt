@@ -2,6 +2,6 @@ pub mod Vectors
 pub mod Theorem1
 pub mod Theorem7
 pub mod Consequence
-pub mod Verdict
+pub mod OneVerdict
 pub mod ReducedForm
 pub mod MarkedNets

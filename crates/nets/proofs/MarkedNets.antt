@@ -6,14 +6,15 @@ use Prim.Native.Nat.{ℕ, zero, suc, _+_, _≤_}
 use native.Mathlib.Omega.{arith}
 use lib.Dec.{T}
 use lib.ListN.{length}
-use lib.Signed.{leZ, leZ-yes}
+use lib.Signed.{_<ℤ_, leZ, leZ-yes}
 use Rattle.signed.specs.Linear.{linear}
-use Rattle.nets.specs.Nets.{Transition, _⊑_, _⊞_, Room}
+use Rattle.nets.specs.Nets.{Marking, Transition, _⊑_, _⊞_, Enabled, Room}
 use Rattle.nets.specs.HalfSpaces.{HalfSpace, value, Inside, Outside, Bad, Kept}
+use Rattle.nets.specs.Window.{low-end, high-end, InWindow}
 use Rattle.nets.specs.Verdicts.{Meets, IsTarget}
 use Rattle.nets.specs.Cases.{Holds, AllHold, cases, at}
 use Rattle.nets.proofs.Vectors.{room-length, at-most-sum, outside-exactly}
-use Rattle.nets.proofs.Theorem1.{low-end, high-end, InWindow, bad-beside, kept-exactly}
+use Rattle.nets.proofs.Theorem1.{bad-beside, kept-exactly}
 
 -- over two places
 pub two : (P : List ℕ → Type 0) → ((a b : ℕ) → P (at a b)) → (x : List ℕ) → length x ≡ 2 → P x
@@ -21,6 +22,12 @@ two P all [] e = absurd (omega arith)
 two P all (a ∷ []) e = absurd (omega arith)
 two P all (a ∷ b ∷ []) e = all a b
 two P all (a ∷ b ∷ c ∷ x) e = absurd (omega arith)
+
+-- every marking at or above g is outside
+pub all-outside : (h : HalfSpace) (g : Marking) → length g ≡ 2 → ((a b : ℕ) → g ⊑ at a b → value (h .coefficients) (at a b) <ℤ h .constant) → (m : Marking) → g ⊑ m → Outside h m
+unfolding _⊑_
+all-outside h g places below m above =
+    two (λ m. g ⊑ m → Outside h m) (λ a b above. outside-exactly h (at a b) .1 (below a b above)) m (sym (above .0) ∙ places) above
 
 module _ (h : HalfSpace) (s : Transition) (same : length (s .put) ≡ length (s .taken)) where
   pub none-hits : length (s .taken) ≡ 2 → (InWindow h s (at 0 0) → ⊥) → ((a b : ℕ) → 1 ≤ a + b → InWindow h s (at a b) → ⊥) → Kept h s
@@ -40,7 +47,7 @@ _and_ : {A B : Type 0} → A → B → A × B
 a and b = (a, b)
 
 pub all-cases : AllHold cases
-unfolding Holds AllHold cases value _⊞_ Room Meets IsTarget Inside _⊑_
+unfolding Holds AllHold cases value _⊞_ Enabled Room Meets IsTarget Inside _⊑_
 all-cases =
     -- a, b
     none-hits _ _ refl refl (λ w. w .low .le) (λ a b m w. omega (arith, simp linear at (w .high)))
@@ -51,6 +58,7 @@ all-cases =
     and hits _ _ refl (at 0 1) refl tt tt
     -- f, g, h, i
     and none-hits _ _ refl refl (λ w. w .low .le) (λ a b m w. omega (arith, simp linear at (w .low)))
+    and all-outside _ (at 2 1) refl (λ a b above. simp linear (omega (arith, above .1 0, above .1 1)))
     and hits _ _ refl (at 0 0) refl tt tt
     and none-hits _ _ refl refl (λ w. w .high .le) (λ a b m w. omega (arith, simp linear at (w .low)))
     and hits _ _ refl (at 1 0) refl tt tt
@@ -60,6 +68,6 @@ all-cases =
     and none-hits _ _ refl refl (λ w. w .low .le) (λ a b m w. omega (arith, simp linear at (w .high)))
     and hits _ _ refl (at 1 0) refl tt tt
     -- l
-    and (λ m g. two (λ m. at 3 0 ⊑ m → Outside _ m) (λ a b g. outside-exactly _ _ .1 (simp linear (omega (arith, g .1 0)))) m (sym (g .0)) g)
+    and all-outside _ (at 3 0) refl (λ a b above. simp linear (omega (arith, above .1 0)))
     and (at-most-sum (at 3 0) (at 0 1) refl, leZ-yes tt)
     and tt

@@ -1,6 +1,6 @@
 -- A claim has at most one reduced form: two greatest divisors are equal, they are not zero since one divides everything, and what gives the same product is the same.
 -- Twins are then as they should be: the reduced form of the one is that of the other.
-use mathlib.Core.Path.{_≡_, refl, sym, ap, _∙_}
+use mathlib.Core.Path.{_≡_, refl, sym, _∙_}
 use mathlib.Core.Logic.{inl, inr}
 use mathlib.Core.List.{List, [], _∷_, map}
 use Prim.Native.Nat.{ℕ, _+_, _≤_}
@@ -10,19 +10,16 @@ use lib.IntN.{ℤ, pos, _*ℤ_}
 use Rattle.signed.specs.Parts.{P, N, eq-out}
 use Rattle.signed.specs.Linear.{linear}
 use Rattle.nets.specs.HalfSpaces.{HalfSpace}
-use Rattle.nets.specs.Reduced.{EachOf, Each, Divides, IsDivisor, times, IsDivided, IsReduced, Twins}
+use Rattle.nets.specs.Reduced.{EachOf, Divides, IsDivisor, divided-by, IsDivided, IsReduced, Twins}
 
 -- one divides everything
-pub each-of : (P : ℤ → Type 0) → ((z : ℤ) → P z) → (k : List ℤ) → EachOf P k
-unfolding EachOf
-each-of P all [] = tt
-each-of P all (k ∷ ks) = (all k, each-of P all ks)
+pub one-divides : (zs : List ℤ) → EachOf (Divides 1) zs
+unfolding EachOf Divides
+one-divides [] = tt
+one-divides (z ∷ zs) = ((z, simp linear (omega arith)), one-divides zs)
 
-pub divisor-above-zero : (h : HalfSpace) (d : ℕ) → IsDivisor h d → 1 ≤ d
-unfolding Each Divides
-divisor-above-zero h d g =
-    let all : (z : ℤ) → Divides 1 z = λ z. (z, simp linear (omega arith)) in
-    g .greatest 1 (each-of (Divides 1) all (h .coefficients), all (h .constant))
+pub divisor-above-zero : (zs : List ℤ) (d : ℕ) → IsDivisor zs d → 1 ≤ d
+divisor-above-zero zs d g = g .greatest 1 (one-divides zs)
 
 -- what gives the same product is the same
 pub same-factor : (d : ℕ) → 1 ≤ d → (a b : ℤ) → a *ℤ pos d ≡ b *ℤ pos d → a ≡ b
@@ -38,14 +35,12 @@ same-factors d h (x ∷ j) (y ∷ k) e =
     cc
 
 pub divided-once : (h r s : HalfSpace) → IsDivided h r → IsDivided h s → r ≡ s
-unfolding times
 divided-once h r s a b =
     let d : ℕ = a .divisor in
-    let above : 1 ≤ d = divisor-above-zero h d (a .is-divisor) in
+    let above : 1 ≤ d = divisor-above-zero (divided-by h) d (a .is-divisor) in
     let equal : b .divisor ≡ d = omega (arith, a .is-divisor .greatest (b .divisor) (b .is-divisor .common), b .is-divisor .greatest d (a .is-divisor .common)) in
-    let products : times r d ≡ times s d = sym (a .divided) ∙ b .divided ∙ ap (times s) equal in
-    let k : r .coefficients ≡ s .coefficients = same-factors d above (r .coefficients) (s .coefficients) (ap (λ (g : HalfSpace). g .coefficients) products) in
-    let c : r .constant ≡ s .constant = same-factor d above (r .constant) (s .constant) (ap (λ (g : HalfSpace). g .constant) products) in
+    let k : r .coefficients ≡ s .coefficients = same-factors d above (r .coefficients) (s .coefficients) (sym (a .coefficients-divided) ∙ rw equal at (b .coefficients-divided)) in
+    let c : r .constant ≡ s .constant = same-factor d above (r .constant) (s .constant) (sym (a .constant-divided) ∙ rw equal at (b .constant-divided)) in
     λ i. record { coefficients = k i; constant = c i }
 
 pub one-reduced-form : (h r s : HalfSpace) → IsReduced h r → IsReduced h s → r ≡ s

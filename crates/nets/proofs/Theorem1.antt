@@ -6,24 +6,11 @@ use mathlib.Core.List.{List}
 use Prim.Native.Nat.{ℕ}
 use native.Mathlib.Omega.{arith}
 use lib.ListN.{length}
-use lib.IntN.{ℤ, pos, _-ℤ_}
-use lib.Signed.{_≤ℤ_}
 use Rattle.signed.specs.Linear.{linear}
 use Rattle.nets.specs.Nets.{Marking, Transition, _⊞_, _⊟_, Room}
-use Rattle.nets.specs.HalfSpaces.{HalfSpace, value, Inside, Bad, Kept, Broken}
+use Rattle.nets.specs.HalfSpaces.{HalfSpace, Inside, Bad, Kept, Broken}
+use Rattle.nets.specs.Window.{InWindow}
 use Rattle.nets.proofs.Vectors.{outside-exactly, enabled-by, room-left, sum-left, value-before, value-after}
-
--- the window's ends: c - A and c - B - 1
-abbrev pub low-end : HalfSpace → Transition → ℤ
-low-end h t = h .constant -ℤ value (h .coefficients) (t .taken)
-
-abbrev pub high-end : HalfSpace → Transition → ℤ
-high-end h t = (h .constant -ℤ value (h .coefficients) (t .put)) -ℤ pos 1
-
-pub record InWindow (h : HalfSpace) (t : Transition) (x : List ℕ) : Type 0 where
-  pub room : Room t x
-  pub low : low-end h t ≤ℤ value (h .coefficients) x
-  pub high : value (h .coefficients) x ≤ℤ high-end h t
 
 module _ (h : HalfSpace) (t : Transition) (same : length (t .put) ≡ length (t .taken)) where
   pub bad-beside : (x : List ℕ) → InWindow h t x → Bad h t (t .taken ⊞ x)

@@ -13,12 +13,8 @@ use Rattle.signed.specs.Parts.{P, N, le-or-lt}
 use Rattle.signed.specs.Linear.{linear, mul-le}
 use Rattle.nets.specs.Nets.{Marking, _⊑_, _⊞_, _⊟_}
 use Rattle.nets.specs.HalfSpaces.{HalfSpace, value, Inside}
-use Rattle.nets.specs.Verdicts.{exact, atOrAbove, Meets, IsTarget, Setting, TargetInside}
+use Rattle.nets.specs.Verdicts.{exact, atOrAbove, Meets, IsTarget, Setting, TargetInside, SomeAbove}
 use Rattle.nets.proofs.Vectors.{value-plus, length-minus, at-most-itself, at-most-sum, sum-rest, inside-or-below}
-
--- some coefficient is above zero
-unfoldable pub SomeAbove : List ℤ → Type 0
-SomeAbove k = (p : ℕ) × (p < length k) × (pos 0 <ℤ getD k p (pos 0))
 
 pub above-zero : (k : List ℤ) (xs : List ℕ) → pos 0 <ℤ value k xs → SomeAbove k
 unfolding value SomeAbove

@@ -2,19 +2,21 @@
 use mathlib.Core.List.{List, [], _∷_}
 use Prim.Native.Nat.{ℕ}
 use lib.IntN.{ℤ, pos, negsuc}
-use Rattle.nets.specs.Nets.{Marking, Transition}
+use Rattle.nets.specs.Nets.{Marking, Transition, Enabled}
 use Rattle.nets.specs.HalfSpaces.{HalfSpace, Inside, Outside, Bad, Kept}
 use Rattle.nets.specs.Verdicts.{Target, atOrAbove, IsTarget}
 
 -- what a case says
 pub data Says : Type 0 where
   kept : HalfSpace → Transition → Says
+  never-inside : HalfSpace → Transition → Says
   broken-at : HalfSpace → Transition → Marking → Says
   excludes : HalfSpace → Target → Says
   fails-at : HalfSpace → Target → Marking → Says
 
 unfoldable pub Holds : Says → Type 0
 Holds (kept h t) = Kept h t
+Holds (never-inside h t) = (m : Marking) → Enabled t m → Outside h m
 Holds (broken-at h t m) = Bad h t m
 Holds (excludes h g) = (m : Marking) → IsTarget g m → Outside h m
 Holds (fails-at h g m) = IsTarget g m × Inside h m
@@ -51,6 +53,7 @@ cases =
     ∷ broken-at (space (pos 53) (pos 52) (pos 210)) t (at 2 2)
     -- f, g, h, i
     ∷ kept (space (negsuc 1) (negsuc 2) (negsuc 5)) t
+    ∷ never-inside (space (negsuc 1) (negsuc 2) (negsuc 5)) t
     ∷ broken-at (space (negsuc 1) (negsuc 2) (negsuc 6)) t (at 2 1)
     ∷ kept (space (negsuc 1) (negsuc 2) (negsuc 7)) t
     ∷ broken-at (space (negsuc 1) (negsuc 2) (negsuc 8)) t (at 3 1)

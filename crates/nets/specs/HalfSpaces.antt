@@ -1,6 +1,7 @@
 -- Half spaces, and what keeps or breaks them: document 01, "Half spaces and verdicts"; source document 004.
-use mathlib.Core.List.{List, [], _∷_}
-use Prim.Native.Nat.{ℕ}
+use mathlib.Core.List.{List, [], _∷_, _++_}
+use Prim.Native.Nat.{ℕ, _-_, _≤_}
+use lib.ListN.{length, getD, replicate}
 use lib.IntN.{ℤ, pos, _+ℤ_, _*ℤ_}
 use lib.Signed.{_≤ℤ_}
 use Rattle.nets.specs.Nets.{Marking, Transition, Enabled, fire}
@@ -27,6 +28,18 @@ pub record Bad (h : HalfSpace) (t : Transition) (m : Marking) : Type 0 where
   pub inside : Inside h m
   pub enabled : Enabled t m
   pub leaves : Outside h (fire t m)
+
+-- A shown bad marking has at most 20,000 tokens in any place.
+abbrev pub mostShown : ℕ
+mostShown = 20000
+
+pub record Shown (h : HalfSpace) (t : Transition) (m : Marking) : Type 0 where
+  pub bad : Bad h t m
+  pub bounded : (p : ℕ) → getD m p 0 ≤ mostShown
+
+-- It is held as 16 numbers, zero beyond place n.
+abbrev pub sixteen : List ℕ → List ℕ
+sixteen m = m ++ replicate (16 - length m) 0
 
 -- Kept exactly if no marking, of any size, is bad; broken if one is.
 unfoldable pub Kept : HalfSpace → Transition → Type 0

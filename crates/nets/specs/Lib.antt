@@ -1,5 +1,6 @@
 pub mod Nets
 pub mod HalfSpaces
+pub mod Window
 pub mod Verdicts
 pub mod Reduced
 pub mod Cases

@@ -1,7 +1,7 @@
 -- Petri nets and firing: document 01, "Firing"; source documents 000 and 004.
 use mathlib.Core.Path.{_≡_}
 use mathlib.Core.List.{List, [], _∷_}
-use Prim.Native.Nat.{ℕ, _+_, _-_, _≤_}
+use Prim.Native.Nat.{ℕ, zero, suc, _+_, _-_, _≤_}
 use lib.ListN.{length, getD}
 
 -- A marking gives each place a whole number, zero or more, with no upper limit: place 1 stands first.
@@ -50,8 +50,13 @@ fire t m = (m ⊟ t .taken) ⊞ t .put
 unfoldable pub IsTransition : Net → ℕ → Type 0
 IsTransition N t = (1 ≤ t) × (t ≤ length (N .transitions))
 
+-- the transition of a number that no transition has: never asked for
+abbrev pub none : Transition
+none = record { taken = []; put = [] }
+
 unfoldable pub transition : Net → ℕ → Transition
-transition N t = getD (N .transitions) (t - 1) (record { taken = []; put = [] })
+transition N zero = none
+transition N (suc t) = getD (N .transitions) t none
 
 -- A firing sequence is a list of transition numbers, each enabled where the ones before it led. An empty one ends where it began.
 unfoldable pub Ends : Net → Marking → List ℕ → Marking → Type 0

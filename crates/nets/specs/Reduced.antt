@@ -1,38 +1,36 @@
 -- The reduced form of a claim, and twins: document 01, "Half spaces and verdicts".
 use mathlib.Core.Path.{_≡_}
 use mathlib.Core.Logic.{_⊎_}
-use mathlib.Core.List.{List, [], _∷_, map}
+use mathlib.Core.List.{List, [], _∷_, _++_, map}
 use Prim.Native.Nat.{ℕ, _≤_}
 use lib.IntN.{ℤ, pos, _*ℤ_}
 use Rattle.nets.specs.HalfSpaces.{HalfSpace}
 
--- every coefficient and the constant
 unfoldable pub EachOf : (ℤ → Type 0) → List ℤ → Type 0
 EachOf P [] = Unit {0}
 EachOf P (k ∷ ks) = P k × EachOf P ks
 
-unfoldable pub Each : (ℤ → Type 0) → HalfSpace → Type 0
-Each P h = EachOf P (h .coefficients) × P (h .constant)
-
 unfoldable pub Divides : ℕ → ℤ → Type 0
 Divides d z = (q : ℤ) × (z ≡ q *ℤ pos d)
 
--- the greatest common divisor of their sizes
-pub record IsDivisor (h : HalfSpace) (d : ℕ) : Type 0 where
-  pub common : Each (Divides d) h
-  pub greatest : (e : ℕ) → Each (Divides e) h → e ≤ d
+-- d is the greatest common divisor of the sizes of zs
+pub record IsDivisor (zs : List ℤ) (d : ℕ) : Type 0 where
+  pub common : EachOf (Divides d) zs
+  pub greatest : (e : ℕ) → EachOf (Divides e) zs → e ≤ d
+
+-- the numbers by whose divisor a claim is divided: all coefficients and the constant
+unfoldable pub divided-by : HalfSpace → List ℤ
+divided-by h = h .coefficients ++ (h .constant ∷ [])
 
 unfoldable pub AllZero : HalfSpace → Type 0
-AllZero h = Each (λ z. z ≡ pos 0) h
+AllZero h = EachOf (λ z. z ≡ pos 0) (divided-by h)
 
-unfoldable pub times : HalfSpace → ℕ → HalfSpace
-times r d = record { coefficients = map (λ (k : ℤ). k *ℤ pos d) (r .coefficients); constant = r .constant *ℤ pos d }
-
--- r is h with everything divided by the greatest common divisor
+-- r is h with its coefficients and its constant divided by that divisor
 pub record IsDivided (h r : HalfSpace) : Type 0 where
   pub divisor : ℕ
-  pub is-divisor : IsDivisor h divisor
-  pub divided : h ≡ times r divisor
+  pub is-divisor : IsDivisor (divided-by h) divisor
+  pub coefficients-divided : h .coefficients ≡ map (λ (k : ℤ). k *ℤ pos divisor) (r .coefficients)
+  pub constant-divided : h .constant ≡ r .constant *ℤ pos divisor
 
 -- The reduced form; where all are zero it is the claim itself.
 unfoldable pub IsReduced : HalfSpace → HalfSpace → Type 0

@@ -1,11 +1,10 @@
 -- Verdicts: `proof` says exactly that the claim is a proof, and a claim has at most one verdict, but for the choice among bad markings.
-use mathlib.Core.Path.{_≡_}
 use mathlib.Core.Logic.{_↔_}
 use Prim.Native.Nat.{ℕ, _<_}
 use native.Mathlib.Omega.{arith}
 use Rattle.nets.specs.Nets.{Marking}
 use Rattle.nets.specs.HalfSpaces.{HalfSpace, Outside, Kept}
-use Rattle.nets.specs.Verdicts.{Verdict, start-outside, target-inside, broken, proof, Setting, IsProof, TargetInside, BrokenFirst, IsVerdict}
+use Rattle.nets.specs.Verdicts.{Verdict, start-outside, target-inside, broken, proof, Setting, IsProof, TargetInside, BrokenFirst, IsVerdict, SameBut}
 
 pub proof-exactly : (q : Setting) (h : HalfSpace) → IsVerdict q h proof ↔ IsProof q h
 unfolding IsVerdict TargetInside Outside
@@ -14,29 +13,10 @@ proof-exactly q h = (
   λ p. (record { start-inside = p .start-inside; target-outside = λ w. p .target-outside (w .0) (w .1) (w .2) }, p .every-kept),
 )
 
--- the same but for the bad marking
-unfoldable pub SameBut : Verdict → Verdict → Type 0
-SameBut start-outside start-outside = Unit {0}
-SameBut start-outside target-inside = ⊥
-SameBut start-outside (broken u l) = ⊥
-SameBut start-outside proof = ⊥
-SameBut target-inside start-outside = ⊥
-SameBut target-inside target-inside = Unit {0}
-SameBut target-inside (broken u l) = ⊥
-SameBut target-inside proof = ⊥
-SameBut (broken t m) start-outside = ⊥
-SameBut (broken t m) target-inside = ⊥
-SameBut (broken t m) (broken u l) = t ≡ u
-SameBut (broken t m) proof = ⊥
-SameBut proof start-outside = ⊥
-SameBut proof target-inside = ⊥
-SameBut proof (broken u l) = ⊥
-SameBut proof proof = Unit {0}
-
 module _ (q : Setting) (h : HalfSpace) where
   pub none-lower : (t u : ℕ) (m l : Marking) → BrokenFirst q h t m → BrokenFirst q h u l → u < t → ⊥
   unfolding Kept
-  none-lower t u m l b c less = b .lowest u (c .there) less l (c .bad)
+  none-lower t u m l b c less = b .lowest u (c .there) less l (c .shown .bad)
 
   pub one-verdict : (v w : Verdict) → IsVerdict q h v → IsVerdict q h w → SameBut v w
   unfolding IsVerdict SameBut Outside Kept
@@ -52,8 +32,8 @@ module _ (q : Setting) (h : HalfSpace) where
   one-verdict (broken t m) target-inside a b = a .0 .target-outside (b .1)
   one-verdict (broken t m) (broken u l) a b =
       omega (arith, none-lower t u m l (a .1) (b .1), none-lower u t l m (b .1) (a .1))
-  one-verdict (broken t m) proof a b = b .1 t (a .1 .there) m (a .1 .bad)
+  one-verdict (broken t m) proof a b = b .1 t (a .1 .there) m (a .1 .shown .bad)
   one-verdict proof start-outside a b = b (a .0 .start-inside)
   one-verdict proof target-inside a b = a .0 .target-outside (b .1)
-  one-verdict proof (broken u l) a b = a .1 u (b .1 .there) l (b .1 .bad)
+  one-verdict proof (broken u l) a b = a .1 u (b .1 .there) l (b .1 .shown .bad)
   one-verdict proof proof a b = tt
