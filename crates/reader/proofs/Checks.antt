@@ -1,15 +1,13 @@
 -- What a check's answer tells of the part that it checked: it is fine exactly where the part is sound, and it passes a refusal on.
-use mathlib.Core.Path.{_≡_, refl, sym, ap, subst, _∙_}
-use mathlib.Core.Bool.{Bool, true, false}
+use mathlib.Core.Path.{_≡_, refl, sym, ap, _∙_}
 use mathlib.Core.List.{List}
 use Prim.Native.Nat.{ℕ, _+_, _≤_}
 use native.Mathlib.Omega.{arith}
-use lib.Dec.{leb}
 use lib.ListN.{length}
-use borrow.Author.Tests.{leb-true}
 use Rattle.terms.specs.declared.Refusal.{Refusal}
-use Rattle.format.specs.Read.{Read, sound, refused, _>>=_, _>>_, need}
-use Rattle.format.specs.Reading.{markedAt, wholeAt, openedAt}
+use Rattle.format.specs.Read.{Read, sound, refused, _>>=_, _>>_}
+use Rattle.format.specs.Reading.{wholeAt, openedAt}
+use Rattle.format.proofs.Sound.{whole-sound, opened-sound}
 use Rattle.reader.specs.Answers.{checked}
 use Rattle.reader.specs.declared.Check.{Check}
 use Rattle.reader.specs.declared.Check.the-variants.{Fine, Refused}
@@ -49,18 +47,8 @@ map-sound (sound a) f = refl
 map-sound (refused r) f = refl
 
 -- where a record is whole it ends within the sheet
-pub need-fine : (t : Bool) (number at : ℕ) → checked (need t number at) ≡ Fine → t ≡ true
-need-fine true number at e = refl
-need-fine false number at e = absurd (fine-not-refused (sym e))
-
-pub then-fine : {A B : Type 0} (x : Read A) (y : Read B) → checked (x >> y) ≡ Fine → checked y ≡ Fine
-then-fine (sound a) y e = e
-then-fine (refused r) y e = absurd (fine-not-refused (sym e))
-
 pub whole-fits : (s : List ℕ) (at size : ℕ) → checked (wholeAt s at size) ≡ Fine → at + size ≤ length s
-unfolding wholeAt
-whole-fits s at size e = leb-true (at + size) (length s) (need-fine (leb (at + size) (length s)) 1 at e)
+whole-fits s at size e = whole-sound s at size (fine (wholeAt s at size) e .1)
 
 pub opened-fits : (s : List ℕ) (at first second size : ℕ) → checked (openedAt s at first second size) ≡ Fine → at + size ≤ length s
-unfolding openedAt
-opened-fits s at first second size e = whole-fits s at size (then-fine (markedAt s at first second) (wholeAt s at size) e)
+opened-fits s at first second size e = opened-sound s at first second size (fine (openedAt s at first second size) e .1)

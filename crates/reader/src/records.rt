@@ -2,16 +2,17 @@
 ghost use mathlib.Core.Path.{_≡_};
 ghost use Prim.Native.Nat.{_+_, _*_, _≤_};
 ghost use lib.ListN.{length};
-ghost use Rattle.format.specs.Reading.{sizeOf, headOf, transitionAt, startAt, targetAt, claimAt, startFrom, settingOf, frontOf};
+ghost use Rattle.format.specs.Reading.{sizeOf, headOf, transitionAt, startAt, targetAt, claimAt, settingOf, frontOf};
 ghost use Rattle.reader.specs.Answers.{checked};
 use super::Check;
 use super::fields::coefficients;
 use super::fields::constant;
-use super::fields::marked;
 use super::fields::opened;
 use super::fields::refuse;
 use super::fields::weights;
 use super::fields::whole;
+use super::layout::behind_transitions;
+use super::layout::target_from;
 use super::runs::transitions;
 use terms::Place;
 use terms::Transition;
@@ -89,14 +90,6 @@ pub fn claim(s: &[u8], n: usize, at: usize) -> Check
     constant(s, at + 2 + n)
 }
 
-// The first byte behind the transitions.
-pub fn start_from(n: usize, t: usize) -> usize
-    requires { ⌜ (n ≤ 16) × (t ≤ 64) ⌝ }
-    ensures { λ r. ⌜ (r ≡ startFrom (sizeOf n t)) × (r ≤ 2180) ⌝ }
-{
-    4 + t * (2 + 2 * n)
-}
-
 // TR to TG.
 fn setting(s: &[u8], n: usize, t: usize) -> Check
     requires { ⌜ (n ≤ 16) × (t ≤ 64) × (4 ≤ length (now s)) ⌝ }
@@ -106,12 +99,11 @@ fn setting(s: &[u8], n: usize, t: usize) -> Check
     let Check::Fine = net else {
         return net;
     };
-    let at = start_from(n, t);
-    let marking = start(s, n, at);
+    let marking = start(s, n, behind_transitions(n, t));
     let Check::Fine = marking else {
         return marking;
     };
-    target(s, n, at + 2 + 2 * n)
+    target(s, n, target_from(n, t))
 }
 
 // NP to TG.

@@ -9,8 +9,8 @@ use super::Counts;
 use super::Reading;
 use super::fields::marked;
 use super::fields::refuse;
+use super::layout::claims_from;
 use super::records::claim;
-use super::records::start_from;
 use super::records::transition;
 use terms::Claim;
 use terms::Detail;
@@ -52,7 +52,7 @@ pub fn claims(s: &[u8], n: usize, t: usize) -> Reading
     requires { ⌜ (n ≤ 16) × (t ≤ 64) × (claimsFrom (sizeOf n t) ≤ length (now s)) ⌝ }
     ensures { λ r. ⌜ r ≡ countedOf (sizeOf n t) (claimsOf (now (s .entry)) (sizeOf n t)) ⌝ }
 {
-    let mut at = start_from(n, t) + 5 + 4 * n;
+    let mut at = claims_from(n, t);
     if s.len() <= at {
         return Reading::Malformed(Refusal {
             number: 9,

@@ -28,14 +28,14 @@ returns c =
     let a = c .before .before .before .before .args in
     stop-bind (transitionsAt (a .s .now) (a .n) transitionsFrom (a .t)) (c .before .before .transitions .ensures) (λ ts. (startAt (a .s .now) (a .n) (startFrom (sizeOf (a .n) (a .t)))) >>= λ m. (targetAt (a .s .now) (a .n) (targetFrom (sizeOf (a .n) (a .t)))) >>= λ g. sound (record { net = record { places = a .n; transitions = ts }; start = m; target = g })) (c .enum-told2 .given .1)
 
-start-from-requires : tie.Need-start-from-requires
-start-from-requires c κs = search needs
+behind-transitions-requires : tie.Need-behind-transitions-requires
+behind-transitions-requires c κs = search needs
 
 start-requires : tie.Need-start-requires
 start-requires c κs =
     let a = c .before .before .before .before .before .args in
     let x = fine (transitionsAt (a .s .now) (a .n) transitionsFrom (a .t)) (sym (c .before .before .before .transitions .ensures) ∙ c .before .enum-told .given .1) in
-    omega (arith, transitions-sound (a .s .now) (a .n) transitionsFrom (a .t) (x .0) (x .1) .whole (omega arith), c .start-from .ensures .0)
+    omega (arith, transitions-sound (a .s .now) (a .n) transitionsFrom (a .t) (x .0) (x .1) .whole (omega arith), c .behind-transitions .ensures .0)
 
 enum-told-3 : tie.Need-enum-told-3
 enum-told-3 c = search needs
@@ -48,36 +48,29 @@ unfolding settingOf
 returns-2 c =
     let a = c .before .before .before .before .before .before .before .before .args in
     let x = fine (transitionsAt (a .s .now) (a .n) transitionsFrom (a .t)) (sym (c .before .before .before .before .before .before .transitions .ensures) ∙ c .before .before .before .before .enum-told .given .1) in
-    let is : c .before .before .start .result ≡ checked (startAt (a .s .now) (a .n) (startFrom (sizeOf (a .n) (a .t)))) = c .before .before .start .ensures ∙ ap (λ (at : ℕ). checked (startAt (a .s .now) (a .n) at)) (c .before .before .before .start-from .ensures .0) in
+    let is : c .before .before .start .result ≡ checked (startAt (a .s .now) (a .n) (startFrom (sizeOf (a .n) (a .t)))) = c .before .before .start .ensures ∙ ap (λ (at : ℕ). checked (startAt (a .s .now) (a .n) at)) (c .before .before .before .behind-transitions .ensures .0) in
     stop-bind (startAt (a .s .now) (a .n) (startFrom (sizeOf (a .n) (a .t)))) is (λ m. (targetAt (a .s .now) (a .n) (targetFrom (sizeOf (a .n) (a .t)))) >>= λ g. sound (record { net = record { places = a .n; transitions = (x) .0 }; start = m; target = g })) (c .enum-told4 .given .1) ∙ ap checked (sym (go-bind (transitionsAt (a .s .now) (a .n) transitionsFrom (a .t)) (c .before .before .before .before .before .before .transitions .ensures) (λ ts. (startAt (a .s .now) (a .n) (startFrom (sizeOf (a .n) (a .t)))) >>= λ m. (targetAt (a .s .now) (a .n) (targetFrom (sizeOf (a .n) (a .t)))) >>= λ g. sound (record { net = record { places = a .n; transitions = ts }; start = m; target = g })) (c .before .before .before .before .enum-told .given .1)))
 
-add-target : tie.Need-add-target
-add-target c = search needs
-
-mul-target : tie.Need-mul-target
-mul-target c = search needs
-
-add-target-2 : tie.Need-add-target-2
-add-target-2 c = search needs
+target-from-requires : tie.Need-target-from-requires
+target-from-requires c κs = search needs
 
 target-requires : tie.Need-target-requires
 target-requires c κs =
-    let a = c .before .before .before .before .before .before .before .before .args in
-    let y = fine (startAt (a .s .now) (a .n) (c .before .before .before .start-from .result)) (sym (c .before .before .start .ensures) ∙ c .enum-told3 .given .1) in
-    omega (arith, start-sound (a .s .now) (a .n) (c .before .before .before .start-from .result) (y .0) (y .1) .1)
+    let a = c .before .before .before .before .before .before .before .before .before .args in
+    let y = fine (startAt (a .s .now) (a .n) (c .before .before .before .before .behind-transitions .result)) (sym (c .before .before .before .start .ensures) ∙ c .before .enum-told3 .given .1) in
+    omega (arith, start-sound (a .s .now) (a .n) (c .before .before .before .before .behind-transitions .result) (y .0) (y .1) .1, c .before .before .before .before .behind-transitions .ensures .0, c .target-from .ensures .0)
 
 returns-3 : tie.Need-returns-3
 unfolding settingOf
 returns-3 c =
-    let a = c .before .before .before .before .before .before .before .before .before .args in
-    let x = fine (transitionsAt (a .s .now) (a .n) transitionsFrom (a .t)) (sym (c .before .before .before .before .before .before .before .transitions .ensures) ∙ c .before .before .before .before .before .enum-told .given .1) in
-    let is : c .before .before .before .start .result ≡ checked (startAt (a .s .now) (a .n) (startFrom (sizeOf (a .n) (a .t)))) = c .before .before .before .start .ensures ∙ ap (λ (at : ℕ). checked (startAt (a .s .now) (a .n) at)) (c .before .before .before .before .start-from .ensures .0) in
-    let e : c .before .before .before .before .start-from .result + 2 + 2 * a .n ≡ targetFrom (sizeOf (a .n) (a .t)) = omega (arith, c .before .before .before .before .start-from .ensures .0) in
+    let a = c .before .before .before .before .before .before .before .before .before .before .args in
+    let x = fine (transitionsAt (a .s .now) (a .n) transitionsFrom (a .t)) (sym (c .before .before .before .before .before .before .before .before .transitions .ensures) ∙ c .before .before .before .before .before .before .enum-told .given .1) in
+    let is : c .before .before .before .before .start .result ≡ checked (startAt (a .s .now) (a .n) (startFrom (sizeOf (a .n) (a .t)))) = c .before .before .before .before .start .ensures ∙ ap (λ (at : ℕ). checked (startAt (a .s .now) (a .n) at)) (c .before .before .before .before .before .behind-transitions .ensures .0) in
     c .target .ensures
-    ∙ ap (λ (at : ℕ). checked (targetAt (a .s .now) (a .n) at)) e
-    ∙ sym (map-sound (targetAt (a .s .now) (a .n) (targetFrom (sizeOf (a .n) (a .t)))) (λ g. record { net = record { places = a .n; transitions = x .0 }; start = fine (startAt (a .s .now) (a .n) (startFrom (sizeOf (a .n) (a .t)))) (sym is ∙ c .before .enum-told3 .given .1) .0; target = g }))
-    ∙ ap checked (sym (go-bind (startAt (a .s .now) (a .n) (startFrom (sizeOf (a .n) (a .t)))) is (λ m. (targetAt (a .s .now) (a .n) (targetFrom (sizeOf (a .n) (a .t)))) >>= λ g. sound (record { net = record { places = a .n; transitions = (x) .0 }; start = m; target = g })) (c .before .enum-told3 .given .1)))
-    ∙ ap checked (sym (go-bind (transitionsAt (a .s .now) (a .n) transitionsFrom (a .t)) (c .before .before .before .before .before .before .before .transitions .ensures) (λ ts. (startAt (a .s .now) (a .n) (startFrom (sizeOf (a .n) (a .t)))) >>= λ m. (targetAt (a .s .now) (a .n) (targetFrom (sizeOf (a .n) (a .t)))) >>= λ g. sound (record { net = record { places = a .n; transitions = ts }; start = m; target = g })) (c .before .before .before .before .before .enum-told .given .1)))
+    ∙ ap (λ (at : ℕ). checked (targetAt (a .s .now) (a .n) at)) (c .before .target-from .ensures .0)
+    ∙ sym (map-sound (targetAt (a .s .now) (a .n) (targetFrom (sizeOf (a .n) (a .t)))) (λ g. record { net = record { places = a .n; transitions = x .0 }; start = fine (startAt (a .s .now) (a .n) (startFrom (sizeOf (a .n) (a .t)))) (sym is ∙ c .before .before .enum-told3 .given .1) .0; target = g }))
+    ∙ ap checked (sym (go-bind (startAt (a .s .now) (a .n) (startFrom (sizeOf (a .n) (a .t)))) is (λ m. (targetAt (a .s .now) (a .n) (targetFrom (sizeOf (a .n) (a .t)))) >>= λ g. sound (record { net = record { places = a .n; transitions = (x) .0 }; start = m; target = g })) (c .before .before .enum-told3 .given .1)))
+    ∙ ap checked (sym (go-bind (transitionsAt (a .s .now) (a .n) transitionsFrom (a .t)) (c .before .before .before .before .before .before .before .before .transitions .ensures) (λ ts. (startAt (a .s .now) (a .n) (startFrom (sizeOf (a .n) (a .t)))) >>= λ m. (targetAt (a .s .now) (a .n) (targetFrom (sizeOf (a .n) (a .t)))) >>= λ g. sound (record { net = record { places = a .n; transitions = ts }; start = m; target = g })) (c .before .before .before .before .before .before .enum-told .given .1)))
 
 pub setting-spec : {M : Type 1} → statement M
 setting-spec =
@@ -87,13 +80,11 @@ setting-spec =
     enum-told
     enum-told-2
     returns
-    start-from-requires
+    behind-transitions-requires
     start-requires
     enum-told-3
     enum-told-4
     returns-2
-    add-target
-    mul-target
-    add-target-2
+    target-from-requires
     target-requires
     returns-3)

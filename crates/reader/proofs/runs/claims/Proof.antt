@@ -19,30 +19,21 @@ Inv-loop s n t at₀ more₀ at more = (at ≤ length s) × (more ≤ 32) × (co
 abbrev μ-loop : tie.MeasureT-loop
 μ-loop s n t at₀ more₀ at more = length s - at
 
-start-from-requires : tie.Need-start-from-requires Inv-loop μ-loop
-start-from-requires c κs = omega arith
-
-add-at : tie.Need-add-at Inv-loop μ-loop
-add-at c = omega (arith, c .start-from .ensures .1)
-
-mul-at : tie.Need-mul-at Inv-loop μ-loop
-mul-at c = omega arith
-
-add-at-2 : tie.Need-add-at-2 Inv-loop μ-loop
-add-at-2 c = omega (arith, c .start-from .ensures .1)
+claims-from-requires : tie.Need-claims-from-requires Inv-loop μ-loop
+claims-from-requires c κs = omega arith
 
 returns : tie.Need-returns Inv-loop μ-loop
 unfolding claimsOf
 returns c =
     let a = c .before .before .before .args in
-    let e : claimsFrom (sizeOf (a .n) (a .t)) ≡ c .before .start-from .result + 5 + 4 * a .n = omega (arith, c .before .start-from .ensures .0) in
+    let e : claimsFrom (sizeOf (a .n) (a .t)) ≡ c .before .claims-from .result = sym (c .before .claims-from .ensures .0) in
     rw (le-leb (length (a .s .now)) (claimsFrom (sizeOf (a .n) (a .t))) (omega arith))
 
 loop-holds : tie.Need-loop-holds Inv-loop μ-loop
 unfolding claimsOf
 loop-holds c =
     let a = c .before .before .before .args in
-    let e : claimsFrom (sizeOf (a .n) (a .t)) ≡ c .before .start-from .result + 5 + 4 * a .n = omega (arith, c .before .start-from .ensures .0) in (
+    let e : claimsFrom (sizeOf (a .n) (a .t)) ≡ c .before .claims-from .result = sym (c .before .claims-from .ensures .0) in (
       omega arith,
       omega arith,
       rw (lt-leb (length (a .s .now)) (claimsFrom (sizeOf (a .n) (a .t))) (omega arith)) (from-none (sizeOf (a .n) (a .t)) (claimsAt (a .s .now) (a .n) (claimsFrom (sizeOf (a .n) (a .t))) 32) ∙ ap (λ (at : ℕ). countedFrom 0 (sizeOf (a .n) (a .t)) (claimsAt (a .s .now) (a .n) at 32)) e),
@@ -63,11 +54,11 @@ returns-2 c =
 enum-told : tie.Need-enum-told Inv-loop μ-loop
 enum-told c = search needs
 
-add-at-3 : tie.Need-add-at-3 Inv-loop μ-loop
-add-at-3 c = omega arith
+add-at : tie.Need-add-at Inv-loop μ-loop
+add-at c = omega arith
 
-add-at-4 : tie.Need-add-at-4 Inv-loop μ-loop
-add-at-4 c =
+add-at-2 : tie.Need-add-at-2 Inv-loop μ-loop
+add-at-2 c =
     let a = c .before .before .before .before .before .before .before .before .args in
     let l = c .before .before .before .before .loop in
     let x = fine (claimDue (a .s .now) (a .n) (l .at) (l .more)) (sym (c .before .before .claim-due .ensures) ∙ c .enum-told .given .1) in
@@ -101,8 +92,8 @@ loop-again c =
           ∙ ap (λ (k : ℕ). countedFrom k (sizeOf (a .n) (a .t)) (claimsAt (a .s .now) (a .n) (l .at + claimSize (a .n)) (l .more - 1))) one,
     )
 
-sub-t10 : tie.Need-sub-t10 Inv-loop μ-loop
-sub-t10 c = omega arith
+sub-t8 : tie.Need-sub-t8 Inv-loop μ-loop
+sub-t8 c = omega arith
 
 returns-3 : tie.Need-returns-3 Inv-loop μ-loop
 returns-3 c =
@@ -116,20 +107,17 @@ claims-spec =
     (tie.spec
     Inv-loop
     μ-loop
-    start-from-requires
-    add-at
-    mul-at
-    add-at-2
+    claims-from-requires
     returns
     loop-holds
     claim-due-requires
     enum-known-due
     returns-2
     enum-told
-    add-at-3
-    add-at-4
+    add-at
+    add-at-2
     sub-more
     loop-less
     loop-again
-    sub-t10
+    sub-t8
     returns-3)

@@ -1,11 +1,11 @@
--- `records::start_from` meets its contract: 64 transitions of 34 bytes are 2,176.
+-- `layout::behind_transitions` meets its contract: 64 transitions of 34 bytes are 2,176.
 use native.Mathlib.Omega.{arith}
 use Prim.Native.Nat.{_+_, _*_, _≤_}
 use mathlib.Core.Path.{refl}
 use native.Mathlib.Nat.{mul-le-mul}
 use borrow.Author.Needs.{needs}
-use Rattle.reader.proofs.records.start_from.Statement.{statement}
-use Rattle.reader.proofs.records.start_from.Tie as tie
+use Rattle.reader.proofs.layout.behind_transitions.Statement.{statement}
+use Rattle.reader.proofs.layout.behind_transitions.Tie as tie
 
 size : (c : tie.Start) → 2 + 2 * c .args .n ≤ 34
 size c = omega arith
@@ -25,5 +25,6 @@ add-result-2 c = omega (arith, mul-le-mul (c .pre .1) (size c))
 returns : tie.Need-returns
 returns c = (refl, omega (arith, mul-le-mul (c .pre .1) (size c)))
 
-pub start-from-spec : {M : Type 1} → statement M
-start-from-spec = tie.close (tie.spec mul-result add-result mul-result-2 add-result-2 returns)
+pub behind-transitions-spec : {M : Type 1} → statement M
+behind-transitions-spec =
+    tie.close (tie.spec mul-result add-result mul-result-2 add-result-2 returns)
