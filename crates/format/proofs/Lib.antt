@@ -1,3 +1,13 @@
 pub mod Sound
 pub mod Places
 pub mod Prefix
+pub mod Everywhere
+pub mod Standing
+pub mod Parts
+pub mod Numbers
+pub mod Fields
+pub mod Records
+pub mod Lists
+pub mod Accepted
+pub mod OneAnswer
+pub mod Longest

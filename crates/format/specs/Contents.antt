@@ -1,6 +1,8 @@
 -- What a sheet holds: a net, a start and a target, and the claims.
-use mathlib.Core.List.{List}
-use Prim.Native.Nat.{ℕ}
+use mathlib.Core.List.{List, []}
+use Prim.Native.Nat.{ℕ, zero, suc}
+use lib.IntN.{pos}
+use lib.ListN.{getD}
 use Rattle.nets.specs.HalfSpaces.{HalfSpace}
 use Rattle.nets.specs.Verdicts.{Setting}
 
@@ -11,6 +13,15 @@ Claim = HalfSpace
 abbrev pub halfSpace : Claim → HalfSpace
 halfSpace i = i
 
+-- a claim that no sheet holds, never asked for
+abbrev pub no-claim : Claim
+no-claim = record { coefficients = []; constant = pos 0 }
+
 pub record Contents : Type 0 where
   pub setting : Setting
   pub claims : List Claim
+
+-- Claims are numbered from 1.
+unfoldable pub claim : Contents → ℕ → Claim
+claim x zero = no-claim
+claim x (suc i) = getD (x .claims) i no-claim

@@ -1,7 +1,7 @@
 -- The bytes of a sheet with given contents: document 01, "What the sheet holds".
 use mathlib.Core.List.{List, [], _∷_, _++_, map}
 use Prim.Native.Nat.{ℕ, _+_, _-_, _*_, _/_, _%_}
-use lib.ListN.{length}
+use lib.ListN.{length, take}
 use lib.IntN.{ℤ, pos, negsuc}
 use Rattle.nets.specs.Nets.{Marking, Transition}
 use Rattle.nets.specs.Verdicts.{Kind, exact, atOrAbove, Setting, Target}
@@ -16,7 +16,7 @@ joined f (x ∷ xs) = f x ++ joined f xs
 abbrev pub wordBytes : ℕ → List ℕ
 wordBytes w = (w % 256) ∷ (w / 256) ∷ []
 
--- two's complement: the number itself, or the number and 256 (65,536)
+-- two's complement: the number itself, and below zero the number plus 256, or plus 65,536 in two bytes
 abbrev pub signedByte : ℤ → ℕ
 signedByte (pos k) = k
 signedByte (negsuc k) = 255 - k
@@ -46,3 +46,7 @@ settingBytes q = 0x4E ∷ 0x50 ∷ q .net .places ∷ length (q .net .transition
 
 unfoldable pub encoded : Contents → List ℕ
 encoded x = settingBytes (x .setting) ++ joined claimBytes (x .claims)
+
+-- where the record of claim i starts: behind the setting and the claims before it
+unfoldable pub recordFrom : Contents → ℕ → ℕ
+recordFrom x i = length (settingBytes (x .setting) ++ joined claimBytes (take (i - 1) (x .claims)))

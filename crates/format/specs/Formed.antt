@@ -14,6 +14,10 @@ unfoldable pub All : {A : Type 0} → (A → Type 0) → List A → Type 0
 All P [] = Unit {0}
 All P (x ∷ xs) = P x × All P xs
 
+-- a sheet is a list of bytes
+abbrev pub IsSheet : List ℕ → Type 0
+IsSheet s = All (λ b. b < 256) s
+
 -- one number for each of n places, and each fits
 pub record Row {A : Type 0} (n : ℕ) (fits : A → Type 0) (xs : List A) : Type 0 where
   pub places : length xs ≡ n

@@ -47,7 +47,7 @@ openedAt s at first second size = do
   markedAt s at first second
   wholeAt s at size
 
--- fields of one byte, in order: the first that does not fit is refused, and the detail is that byte
+-- fields of one byte, in order: the first that does not fit is refused, and the detail is that byte's place
 unfoldable pub eachFits : (ℕ → Bool) → ℕ → List ℕ → ℕ → ℕ → Read (Unit {0})
 eachFits fits number s at zero = sound tt
 eachFits fits number s at (suc n) = do
@@ -132,7 +132,7 @@ claimAt s n at = do
   need (constantFits (signedWord s (at + 2 + n))) 7 (at + 2 + n)
   sound (claimIn s n at)
 
--- Wherever a byte remains, a claim's mark must stand; then comes 8, where no `more` may come; then the claim.
+-- Where a claim is due its mark must stand; where no `more` may come that is 8; then come its length and fields.
 unfoldable pub claimDue : List ℕ → ℕ → ℕ → ℕ → Read Claim
 claimDue s n at more = do
   markedAt s at 0x48 0x53

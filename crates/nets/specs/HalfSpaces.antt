@@ -38,8 +38,8 @@ pub record Shown (h : HalfSpace) (t : Transition) (m : Marking) : Type 0 where
   pub bounded : (p : ℕ) → getD m p 0 ≤ mostShown
 
 -- It is held as 16 numbers, zero beyond place n.
-abbrev pub sixteen : List ℕ → List ℕ
-sixteen m = m ++ replicate (16 - length m) 0
+abbrev pub sixteen : {A : Type 0} → A → List A → List A
+sixteen z xs = xs ++ replicate (16 - length xs) z
 
 -- Kept exactly if no marking, of any size, is bad; broken if one is.
 unfoldable pub Kept : HalfSpace → Transition → Type 0

@@ -1,0 +1,73 @@
+-- What the calls answer for what a sheet holds: the sheet's refusal, then 11 or 12, then the numbers, sixteen of them and zero beyond place n.
+use mathlib.Core.Bool.{Bool, cond, false}
+use mathlib.Core.List.{List, []}
+use Prim.Native.Nat.{ℕ}
+use lib.Dec.{leb}
+use lib.IntN.{ℤ, pos}
+use lib.ListN.{length}
+use Rattle.terms.specs.Refusals.{notAClaim, notATransition}
+use Rattle.terms.specs.declared.Transition.{Transition}
+use Rattle.terms.specs.declared.Claim.{Claim}
+use Rattle.nets.specs.Nets.{transition}
+use Rattle.nets.specs.HalfSpaces.{sixteen}
+use Rattle.nets.specs.Verdicts as verdicts
+use Rattle.format.specs.Read.{Read, sound, refused, choose}
+use Rattle.format.specs.Contents.{Contents, halfSpace, claim}
+use Rattle.reader.specs.declared.Check.{Check}
+use Rattle.reader.specs.declared.Check.the-variants.{Fine, Refused}
+use Rattle.sheet.specs.declared.Weights.{Weights}
+use Rattle.sheet.specs.declared.Start.{Start}
+use Rattle.sheet.specs.declared.Target.{Target}
+use Rattle.sheet.specs.declared.Kind.{Kind}
+use Rattle.sheet.specs.declared.Kind.the-variants.{Exact, AtOrAbove}
+use Rattle.sheet.specs.declared.HalfSpace.{HalfSpace}
+
+-- a number counted from 1, of so many
+abbrev pub among : ℕ → ℕ → Bool
+among i count = cond (leb 1 i) (leb i count) false
+
+-- 11: claim number 0 or above the count
+abbrev pub claimCheck : Read Contents → Claim → Check
+claimCheck (refused r) i = Refused r
+claimCheck (sound x) i = choose (among (i .0) (length (x .claims))) Fine (Refused (notAClaim i))
+
+-- 12: transition number 0 or above T
+abbrev pub transitionCheck : Read Contents → Transition → Check
+transitionCheck (refused r) t = Refused r
+transitionCheck (sound x) t = choose (among (t .0) (length (x .setting .net .transitions))) Fine (Refused (notATransition t))
+
+-- the weights of transition t; a refusal has zeros
+abbrev pub noWeights : Check → Weights
+noWeights answer = record { answer = answer; taken = sixteen 0 []; put = sixteen 0 [] }
+
+abbrev pub weightsIn : Contents → ℕ → Weights
+weightsIn x t = record { answer = Fine; taken = sixteen 0 (transition (x .setting .net) t .taken); put = sixteen 0 (transition (x .setting .net) t .put) }
+
+abbrev pub weightsOf : Read Contents → Transition → Weights
+weightsOf (refused r) t = noWeights (Refused r)
+weightsOf (sound x) t = choose (among (t .0) (length (x .setting .net .transitions))) (weightsIn x (t .0)) (noWeights (Refused (notATransition t)))
+
+-- the start
+abbrev pub startOf : Read Contents → Start
+startOf (refused r) = record { answer = Refused r; tokens = sixteen 0 [] }
+startOf (sound x) = record { answer = Fine; tokens = sixteen 0 (x .setting .start) }
+
+-- kind and target
+abbrev pub kindOf : verdicts.Kind → Kind
+kindOf verdicts.exact = Exact
+kindOf verdicts.atOrAbove = AtOrAbove
+
+abbrev pub targetOf : Read Contents → Target
+targetOf (refused r) = record { answer = Refused r; kind = Exact; tokens = sixteen 0 [] }
+targetOf (sound x) = record { answer = Fine; kind = kindOf (x .setting .target .kind); tokens = sixteen 0 (x .setting .target .tokens) }
+
+-- coefficients and constant of claim i
+abbrev pub noHalfSpace : Check → HalfSpace
+noHalfSpace answer = record { answer = answer; coefficients = sixteen (pos 0) []; constant = pos 0 }
+
+abbrev pub halfSpaceIn : Contents → ℕ → HalfSpace
+halfSpaceIn x i = record { answer = Fine; coefficients = sixteen (pos 0) (halfSpace (claim x i) .coefficients); constant = halfSpace (claim x i) .constant }
+
+abbrev pub halfSpaceOf : Read Contents → Claim → HalfSpace
+halfSpaceOf (refused r) i = noHalfSpace (Refused r)
+halfSpaceOf (sound x) i = choose (among (i .0) (length (x .claims))) (halfSpaceIn x (i .0)) (noHalfSpace (Refused (notAClaim i)))

@@ -1,0 +1,54 @@
+// Sixteen numbers of one kind, zero beyond place n.
+ghost use mathlib.Core.Path.{_≡_};
+ghost use mathlib.Core.List.{map};
+ghost use Prim.Native.Nat.{_+_, _*_, _≤_};
+ghost use lib.IntN.{pos};
+ghost use lib.ListN.{length};
+ghost use Rattle.signed.specs.Twos.{twos8};
+ghost use Rattle.nets.specs.HalfSpaces.{sixteen};
+ghost use Rattle.format.specs.Reading.{bytes, word, words};
+use terms::Coefficient;
+use terms::Place;
+
+pub fn weights_from(s: &[u8], at: usize, n: usize) -> [u8; 16]
+    requires { ⌜ (n ≤ 16) × (at + n ≤ length (now s)) ⌝ }
+    ensures { λ r. ⌜ r ≡ sixteen 0 (bytes (now (s .entry)) at n) ⌝ }
+{
+    let mut row = [0u8; Place::MOST];
+    for p in 0..n {
+        row[p] = s[at + p];
+    }
+    row
+}
+
+// A number of two bytes, the low byte first.
+fn two_bytes(s: &[u8], at: usize) -> u16
+    requires { ⌜ at + 2 ≤ length (now s) ⌝ }
+    ensures { λ r. ⌜ r ≡ word (now (s .entry)) at ⌝ }
+{
+    (s[at] as u16) + 256 * (s[at + 1] as u16)
+}
+
+pub fn tokens_from(s: &[u8], at: usize, n: usize) -> [u16; 16]
+    requires { ⌜ (n ≤ 16) × (at + 2 * n ≤ length (now s)) ⌝ }
+    ensures { λ r. ⌜ r ≡ sixteen 0 (words (now (s .entry)) at n) ⌝ }
+{
+    let mut row = [0u16; Place::MOST];
+    for p in 0..n {
+        row[p] = two_bytes(s, at + 2 * p);
+    }
+    row
+}
+
+pub fn coefficients_from(s: &[u8], at: usize, n: usize) -> [i8; 16]
+    requires { ⌜ (n ≤ 16) × (at + n ≤ length (now s)) ⌝ }
+    ensures { λ r. ⌜ r ≡ sixteen (pos 0) (map twos8 (bytes (now (s .entry)) at n)) ⌝ }
+{
+    let mut row = [0i8; Place::MOST];
+    for p in 0..n {
+        let k = Coefficient::of_byte(s[at + p]);
+        let v = k.0;
+        row[p] = v;
+    }
+    row
+}
