@@ -14,7 +14,7 @@ use Rattle.nets.specs.Verdicts.{Setting}
 use Rattle.format.specs.Read.{sound, refused}
 use Rattle.format.specs.Contents.{Claim, Contents}
 use Rattle.format.specs.Reading.{Size, sizeOf, headSize, transitionSize, startFrom, targetFrom, claimsFrom, settingOf, claimsAt, claimsOf, reading}
-use Rattle.format.specs.Formed.{All, Row, IsTokens, FormedTransition, FormedSetting, Formed}
+use Rattle.format.specs.Formed.{All, IsSheet, Row, IsTokens, FormedTransition, FormedSetting, Formed}
 use Rattle.format.specs.Encoding.{joined, transitionBytes, startBytes, targetBytes, claimBytes, settingBytes, encoded}
 use Rattle.format.proofs.Everywhere.{length-joined}
 use Rattle.format.proofs.Standing.{Stands, stands-append, stands-left, stands-right, stands-whole, whole-stands}
@@ -48,7 +48,7 @@ length-setting q f =
     omega
     (arith, length-append (a ++ b) (targetBytes (q .target)), length-append a b, length-transitions n (q .net .transitions) (f .transitions), length-words n (q .start) (f .start), length-words n (q .target .tokens) (f .target))
 
-module _ (s : List ℕ) (small : All (λ b. b < 256) s) where
+module _ (s : List ℕ) (small : IsSheet s) where
   pub setting-read : (z : Size) (q : Setting) → settingOf s z ≡ sound q → (z ≡ sizeIn q) × SettingStands s q
   unfolding settingOf
   setting-read z q e =
@@ -157,8 +157,8 @@ module _ (s : List ℕ) (small : All (λ b. b < 256) s) where
         (q, setting-sound q front, (is, claims-exactly z is .1 (f .some, claims), refl)),
       )
 
-pub formed : (s : List ℕ) (x : Contents) → All (λ b. b < 256) s → reading s ≡ sound x → Formed x
+pub formed : (s : List ℕ) (x : Contents) → IsSheet s → reading s ≡ sound x → Formed x
 formed s x small e = read-formed s small x e .0
 
-pub accepted-exactly : (s : List ℕ) (x : Contents) → All (λ b. b < 256) s → (reading s ≡ sound x) ↔ (Formed x × (s ≡ encoded x))
+pub accepted-exactly : (s : List ℕ) (x : Contents) → IsSheet s → (reading s ≡ sound x) ↔ (Formed x × (s ≡ encoded x))
 accepted-exactly s x small = (λ e. read-formed s small x e, λ w. reads-back s small x (w .0) (w .1))

@@ -1,6 +1,6 @@
 -- What holds of every entry of a list, under ++, map and joined: each by induction over the list.
 use mathlib.Core.Path.{_≡_, refl, sym, ap₂}
-use mathlib.Core.List.{List, [], _∷_, _++_, map}
+use mathlib.Core.List.{List, [], _∷_, _++_, append-assoc, map}
 use Prim.Native.Nat.{ℕ, zero, suc, _*_}
 use native.Mathlib.Nat.{zero-mul, suc-mul}
 use native.Mathlib.Omega.{arith}
@@ -57,3 +57,8 @@ unfolding All joined
 length-joined P f k imp [] a = sym (zero-mul k)
 length-joined P f k imp (x ∷ xs) a =
     rw (length-append, imp x (a .0), length-joined P f k imp xs (a .1), suc-mul) (omega arith)
+
+pub joined-append : {A : Type 0} (f : A → List ℕ) (xs ys : List A) → joined f (xs ++ ys) ≡ joined f xs ++ joined f ys
+unfolding joined
+joined-append f [] ys = refl
+joined-append f (x ∷ xs) ys = rw (joined-append f xs ys, append-assoc)

@@ -11,7 +11,7 @@ use Rattle.signed.specs.Twos.{twos8, twos16}
 use Rattle.terms.specs.Limits.{coefficientFits, constantFits}
 use Rattle.format.specs.Read.{sound}
 use Rattle.format.specs.Reading.{byte, word, signedWord, bytes, words, markedAt, wholeAt, openedAt, eachFits}
-use Rattle.format.specs.Formed.{All, Row, IsTokens, IsCoefficient}
+use Rattle.format.specs.Formed.{All, IsSheet, Row, IsTokens, IsCoefficient}
 use Rattle.format.specs.Encoding.{joined, wordBytes, signedByte, signedBytes}
 use Rattle.format.proofs.Everywhere.{all-map, all-getD, map-back, length-joined}
 use Rattle.format.proofs.Standing.{Stands, stands-append, stands-left, stands-right, stands-fits, length-bytes, stands-bytes, bytes-stand}
@@ -88,11 +88,11 @@ module _ (s : List ℕ) where
       ap₂ twos16 (w .1) (w .2 .1) ∙ constant-back c f
 
 -- and the numbers stand there
-module _ (s : List ℕ) (small : All (λ b. b < 256) s) where
+module _ (s : List ℕ) (small : IsSheet s) where
   byte-small : (at : ℕ) → byte s at < 256
   byte-small at = all-getD (λ b. b < 256) 0 (omega arith) s at small
 
-  bytes-small : (at n : ℕ) → All (λ b. b < 256) (bytes s at n)
+  bytes-small : (at n : ℕ) → IsSheet (bytes s at n)
   unfolding bytes All
   bytes-small at zero = tt
   bytes-small at (suc n) = (byte-small at, bytes-small (at + 1) n)

@@ -9,5 +9,6 @@ pub mod Fields
 pub mod Records
 pub mod Lists
 pub mod Accepted
+pub mod ClaimRecord
 pub mod OneAnswer
 pub mod Longest

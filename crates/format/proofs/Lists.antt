@@ -2,7 +2,7 @@
 use mathlib.Core.Path.{_≡_, refl, ap, subst}
 use mathlib.Core.Logic.{_↔_, ⊎-elim}
 use mathlib.Core.List.{List, [], _∷_}
-use Prim.Native.Nat.{ℕ, zero, suc, _+_, _≤_, _<_}
+use Prim.Native.Nat.{ℕ, zero, suc, _+_, _≤_}
 use native.Mathlib.Omega.{arith}
 use lib.ListN.{length, length-append}
 use lib.Dec.{leb}
@@ -11,7 +11,7 @@ use Rattle.nets.specs.Nets.{Transition}
 use Rattle.format.specs.Read.{Read, sound, _>>=_, _>>_}
 use Rattle.format.specs.Contents.{Claim}
 use Rattle.format.specs.Reading.{transitionSize, transitionsAt, claimSize, claimDue, claimsAt}
-use Rattle.format.specs.Formed.{All, FormedTransition, FormedClaim}
+use Rattle.format.specs.Formed.{All, IsSheet, FormedTransition, FormedClaim}
 use Rattle.format.specs.Encoding.{joined, transitionBytes, claimBytes}
 use Rattle.format.proofs.Standing.{Stands, stands-append, stands-left, stands-right}
 use Rattle.format.proofs.Parts.{parts, sound-same, then-first, choose-either}
@@ -42,7 +42,7 @@ pub record ClaimsStand (s : List ℕ) (n at more : ℕ) (is : List Claim) : Type
   pub stand : Stands s at (joined claimBytes is)
   pub end : length s ≤ at + length (joined claimBytes is)
 
-module _ (s : List ℕ) (small : All (λ b. b < 256) s) (n : ℕ) where
+module _ (s : List ℕ) (small : IsSheet s) (n : ℕ) where
   none-stand : (at more : ℕ) → length s ≤ at → ClaimsStand s n at more []
   unfolding All joined
   none-stand at more h = record { most = omega arith; each = tt; stand = tt; end = omega arith }

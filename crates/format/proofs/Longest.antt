@@ -3,7 +3,6 @@ use mathlib.Core.Path.{_≡_, refl}
 use Prim.Native.Nat.{ℕ, zero, suc, _*_, _≤_}
 use native.Mathlib.Nat.{mul-le-mul}
 use native.Mathlib.Omega.{arith}
-use lib.Dec.{leb}
 use lib.IntN.{pos}
 use lib.ListN.{length, replicate, length-append}
 use borrow.Author.Tests.{leb-true}
@@ -14,7 +13,7 @@ use Rattle.format.specs.Reading.{transitionSize, claimSize}
 use Rattle.format.specs.Formed.{All, Row, IsWeight, IsTokens, IsCoefficient, FormedTransition, FormedClaim, Formed}
 use Rattle.format.specs.Encoding.{joined, claimBytes, settingBytes, encoded}
 use Rattle.format.proofs.Everywhere.{length-joined}
-use Rattle.format.proofs.Parts.{both}
+use Rattle.format.proofs.Sound.{places-fit}
 use Rattle.format.proofs.Records.{length-claim}
 use Rattle.format.proofs.Accepted.{length-setting}
 
@@ -24,7 +23,7 @@ at-most-longest {x} f =
     let n : ℕ = x .setting .net .places in
     let T : ℕ = length (x .setting .net .transitions) in
     let c : ℕ = length (x .claims) in
-    let places : n ≤ 16 = leb-true n 16 (both (leb 1 n) (leb n 16) (f .setting .places)) in
+    let places : n ≤ 16 = places-fit n (f .setting .places) .1 in
     let count : T ≤ 64 = leb-true T 64 (f .setting .count) in
     let transition : transitionSize n ≤ 34 = omega arith in
     let claim : claimSize n ≤ 20 = omega arith in

@@ -4,7 +4,6 @@ use mathlib.Core.Logic.{_↔_}
 use mathlib.Core.List.{List, _++_, map}
 use Prim.Native.Nat.{ℕ, _<_}
 use native.Mathlib.Omega.{arith}
-use lib.Dec.{leb}
 use lib.ListN.{length}
 use borrow.Author.Tests.{leb-true}
 use Rattle.terms.specs.declared.Refusal.{Refusal}
@@ -13,10 +12,12 @@ use Rattle.nets.specs.Verdicts.{Setting}
 use Rattle.format.specs.Read.{Read, sound, refused}
 use Rattle.format.specs.Contents.{Claim, Contents}
 use Rattle.format.specs.Reading.{reading}
-use Rattle.format.specs.Formed.{All, Row, IsWeight, IsTokens, IsCoefficient, FormedTransition, FormedSetting, FormedClaim, Formed}
+use Rattle.format.specs.Formed.{All, IsSheet, Row, IsWeight, IsTokens, IsCoefficient, FormedTransition, FormedSetting, FormedClaim, Formed}
 use Rattle.format.specs.Encoding.{joined, wordBytes, signedByte, signedBytes, transitionBytes, startBytes, targetBytes, claimBytes, settingBytes, encoded}
+use Rattle.format.specs.Answers.{Answers}
 use Rattle.format.proofs.Everywhere.{all-append, all-if, all-map, all-joined}
-use Rattle.format.proofs.Parts.{sound-same, never-both, both}
+use Rattle.format.proofs.Parts.{sound-same, never-both}
+use Rattle.format.proofs.Sound.{places-fit}
 use Rattle.format.proofs.Numbers.{coefficient-small, unsigned, bytes-unsigned, constant-small, kind-most}
 use Rattle.format.proofs.Accepted.{accepted-exactly}
 
@@ -58,7 +59,7 @@ setting-bytes q f =
       (
         omega arith,
         (
-          omega (arith, leb-true n 16 (both (leb 1 n) (leb n 16) (f .places))),
+          omega (arith, places-fit n (f .places)),
           (
             omega (arith, leb-true (length ts) 64 (f .count)),
             all-append IsByte (joined transitionBytes ts ++ startBytes (q .start)) (targetBytes (q .target)) (all-append IsByte (joined transitionBytes ts) (startBytes (q .start)) a b) c,
@@ -67,7 +68,7 @@ setting-bytes q f =
       ),
     )
 
-pub encoded-bytes : {x : Contents} → Formed x → All (λ b. b < 256) (encoded x)
+pub encoded-bytes : {x : Contents} → Formed x → IsSheet (encoded x)
 unfolding encoded
 encoded-bytes {x} f =
     all-append IsByte (settingBytes (x .setting)) (joined claimBytes (x .claims))
@@ -77,16 +78,11 @@ encoded-bytes {x} f =
 -- an encoding is read back
 pub encoded-read : (s : List ℕ) (x : Contents) → Formed x → s ≡ encoded x → reading s ≡ sound x
 encoded-read s x f e =
-    accepted-exactly s x (subst (All (λ b. b < 256)) (sym e) (encoded-bytes f)) .1 (f, e)
+    accepted-exactly s x (subst IsSheet (sym e) (encoded-bytes f)) .1 (f, e)
 
 pub one-encoding : {x y : Contents} → Formed x → Formed y → encoded x ≡ encoded y → x ≡ y
 one-encoding {x} {y} f g e =
     sound-same (sym (encoded-read (encoded x) x f refl) ∙ encoded-read (encoded x) y g e)
-
--- What a sheet's answer says: sound with the contents that it encodes, or refused as it is read.
-unfoldable pub Answers : List ℕ → Read Contents → Type 0
-Answers s (sound x) = Formed x × (s ≡ encoded x)
-Answers s (refused r) = reading s ≡ refused r
 
 pub answer-read : (s : List ℕ) (a : Read Contents) → Answers s a → reading s ≡ a
 unfolding Answers
@@ -96,13 +92,13 @@ answer-read s (refused r) w = w
 pub one-answer : (s : List ℕ) (a b : Read Contents) → Answers s a → Answers s b → a ≡ b
 one-answer s a b v w = sym (answer-read s a v) ∙ answer-read s b w
 
-pub answers-exactly : (s : List ℕ) (a : Read Contents) → All (λ b. b < 256) s → Answers s a ↔ (reading s ≡ a)
+pub answers-exactly : (s : List ℕ) (a : Read Contents) → IsSheet s → Answers s a ↔ (reading s ≡ a)
 unfolding Answers
 answers-exactly s (sound x) small = (accepted-exactly s x small .1, accepted-exactly s x small .0)
 answers-exactly s (refused r) small = (λ e. e, λ e. e)
 
 -- refused exactly if it encodes nothing
-pub refused-exactly : (s : List ℕ) → All (λ b. b < 256) s → ((r : Refusal) × (reading s ≡ refused r)) ↔ ((x : Contents) → Formed x → s ≡ encoded x → ⊥)
+pub refused-exactly : (s : List ℕ) → IsSheet s → ((r : Refusal) × (reading s ≡ refused r)) ↔ ((x : Contents) → Formed x → s ≡ encoded x → ⊥)
 refused-exactly s small =
     (λ w x f e. never-both (w .0) x (sym (w .1) ∙ encoded-read s x f e), λ none. go none (reading s) refl)
   where

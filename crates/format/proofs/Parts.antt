@@ -1,7 +1,7 @@
 -- A reading is sound exactly if each of its parts is: the two cases of the first part show it.
 use mathlib.Core.Path.{_≡_, refl, ap, _∙_}
 use mathlib.Core.Logic.{_↔_, _⊎_, inl, inr}
-use mathlib.Core.Bool.{Bool, true, false, cond}
+use mathlib.Core.Bool.{Bool, true, false}
 use Prim.Native.Nat.{ℕ, _≤_, _<_}
 use native.Mathlib.Omega.{arith}
 use lib.Dec.{leb, ltb, eqb}
@@ -45,10 +45,6 @@ ltb-exactly a b = (ltb-true a b, lt-ltb a b)
 
 pub eqb-exactly : (a b : ℕ) → (eqb a b ≡ true) ↔ (a ≡ b)
 eqb-exactly a b = (eqb-true a b, eq-eqb a b)
-
-pub both : (t u : Bool) → cond t u false ≡ true → u ≡ true
-both true u e = e
-both false u e = cc
 
 pub ruleset parts = (bind-exactly, then-exactly, need-exactly)
 

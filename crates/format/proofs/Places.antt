@@ -1,7 +1,7 @@
 -- Where the contents of a sound sheet stand: records of one kind follow one another, so the one with number i stands i sizes behind the first, by induction.
 use mathlib.Core.Path.{_≡_, refl, sym, ap, _∙_, subst}
-use mathlib.Core.Bool.{Bool, true, false}
-use mathlib.Core.Logic.{_⊎_, inl, inr, ⊎-elim}
+use mathlib.Core.Bool.{true}
+use mathlib.Core.Logic.{⊎-elim}
 use mathlib.Core.List.{List, [], _∷_}
 use Prim.Native.Nat.{ℕ, zero, suc, _+_, _*_, _≤_, _<_}
 use native.Mathlib.Nat.{suc-mul}
@@ -12,14 +12,11 @@ use borrow.Author.Tests.{leb-true, leb-false}
 use Rattle.terms.specs.Limits.{mostClaims}
 use Rattle.nets.specs.Nets.{Transition}
 use Rattle.nets.specs.Verdicts.{Setting}
-use Rattle.format.specs.Read.{Read, sound, choose}
+use Rattle.format.specs.Read.{sound}
 use Rattle.format.specs.Contents.{Claim, Contents}
-use Rattle.format.specs.Reading.{byte, words, transitionSize, claimSize, Size, sizeOf, headOf, transitionIn, transitionAt, transitionsAt, startAt, targetIn, targetAt, claimIn, claimDue, claimsAt, transitionsFrom, startFrom, targetFrom, claimsFrom, settingOf, frontOf, claimsOf, reading}
-use Rattle.format.proofs.Sound.{both-sound, then-sound, head-sound, transition-sound, start-sound, target-sound, due-sound}
-
-pub choose-sound : {A : Type 0} (t : Bool) (x y : Read A) {a : A} → choose t x y ≡ sound a → ((t ≡ true) × (x ≡ sound a)) ⊎ ((t ≡ false) × (y ≡ sound a))
-choose-sound true x y e = inl (refl, e)
-choose-sound false x y e = inr (refl, e)
+use Rattle.format.specs.Reading.{byte, words, transitionSize, claimSize, Size, sizeOf, headOf, transitionIn, transitionsAt, targetIn, claimIn, claimDue, claimsAt, transitionsFrom, startFrom, targetFrom, claimsFrom, settingOf, frontOf, claimsOf, reading}
+use Rattle.format.proofs.Parts.{parts, then-first, choose-either}
+use Rattle.format.proofs.Sound.{head-sound, transition-sound, start-sound, target-sound, due-sound}
 
 -- the one with number i stands i sizes behind the first
 abbrev pub Stand : {A : Type 0} → (ℕ → A) → ℕ → ℕ → List A → Type 0
@@ -41,8 +38,7 @@ transitions-sound s n at zero ts e =
     let p : [] ≡ ts = cc in
     subst (TransitionsSound s n at 0) p (record { count = refl; whole = omega arith; each = λ d i h. absurd (omega arith) })
 transitions-sound s n at (suc k) ts e =
-    let (t, e₁, f₁) = both-sound (transitionAt s n at) _ e in
-    let (us, e₂, f₂) = both-sound (transitionsAt s n (at + transitionSize n) k) _ f₁ in
+    let (t, e₁, (us, e₂, all)) = simp parts at e in
     let (here, whole) = transition-sound s n at t e₁ in
     let rest = transitions-sound s n (at + transitionSize n) k us e₂ in
     let p : t ∷ us ≡ ts = cc in
@@ -69,15 +65,14 @@ claims-sound s n at zero is e =
     ⊎-elim
     (λ done. claims-done s n at 0 is (done .0) (cc))
     (λ due.
-    let (i, e₁, f₁) = then-sound (claimDue s n at 0) _ (due .1) in
+    let (i, e₁) = then-first (claimDue s n at 0) (sound []) is (due .1) in
     absurd (omega (arith, due-sound s n at 0 i e₁ .2)))
-    (choose-sound _ _ _ e)
+    (choose-either _ _ _ _ e)
 claims-sound s n at (suc more) is e =
     ⊎-elim
     (λ done. claims-done s n at (suc more) is (done .0) (cc))
     (λ due.
-    let (i, e₁, f₁) = both-sound (claimDue s n at (suc more)) _ (due .1) in
-    let (js, e₂, f₂) = both-sound (claimsAt s n (at + claimSize n) more) _ f₁ in
+    let (i, e₁, (js, e₂, all)) = simp parts at (due .1) in
     let (here, whole, some) = due-sound s n at (suc more) i e₁ in
     let rest = claims-sound s n (at + claimSize n) more js e₂ in
     let p : i ∷ js ≡ is = cc in
@@ -86,7 +81,7 @@ claims-sound s n at (suc more) is e =
       whole = λ h. omega (arith, rest .whole whole, suc-mul (length js) (claimSize n));
       each = stand-cons (claimIn s n) at (claimSize n) i js here (rest .each);
     }))
-    (choose-sound _ _ _ e)
+    (choose-either _ _ _ _ e)
 
 -- TR to TG
 pub record SettingSound (s : List ℕ) (z : Size) (q : Setting) : Type 0 where
@@ -100,9 +95,7 @@ pub record SettingSound (s : List ℕ) (z : Size) (q : Setting) : Type 0 where
 pub setting-sound : (s : List ℕ) (z : Size) (q : Setting) → settingOf s z ≡ sound q → SettingSound s z q
 unfolding settingOf
 setting-sound s z q e =
-    let (ts, e₁, f₁) = both-sound (transitionsAt s (z .n) transitionsFrom (z .T)) _ e in
-    let (m, e₂, f₂) = both-sound (startAt s (z .n) (startFrom z)) _ f₁ in
-    let (g, e₃, f₃) = both-sound (targetAt s (z .n) (targetFrom z)) _ f₂ in
+    let (ts, e₁, (m, e₂, (g, e₃, here))) = simp parts at e in
     let all = transitions-sound s (z .n) transitionsFrom (z .T) ts e₁ in
     let (target, whole) = target-sound s (z .n) (targetFrom z) g e₃ in
     let p : record { net = record { places = z .n; transitions = ts }; start = m; target = g } ≡ q = cc in
@@ -122,7 +115,7 @@ sizeIn s = sizeOf (byte s 2) (byte s 3)
 pub front-sound : (s : List ℕ) (q : Setting) → frontOf s ≡ sound q → (headOf s ≡ sound (sizeIn s)) × (settingOf s (sizeIn s) ≡ sound q) × (claimsFrom (sizeIn s) ≤ length s)
 unfolding frontOf
 front-sound s q e =
-    let (z, e₁, f₁) = both-sound (headOf s) _ e in
+    let (z, e₁, f₁) = simp parts at e in
     let p : z ≡ sizeIn s = head-sound s z e₁ .size in
     let f : settingOf s (sizeIn s) ≡ sound q = ap (settingOf s) (sym p) ∙ f₁ in
     (e₁ ∙ ap sound p, f, setting-sound s (sizeIn s) q f .whole)
@@ -138,7 +131,7 @@ claims-of-sound s z is e =
     ⊎-elim
     (λ no-byte. absurd (let z : _≡_ {A = ℕ} 0 1 = cc (no-byte .1) in omega arith))
     (λ left. (leb-false (length s) (claimsFrom z) (left .0), claims-sound s (z .n) (claimsFrom z) mostClaims is (left .1)))
-    (choose-sound _ _ _ e)
+    (choose-either _ _ _ _ e)
 
 -- the sheet
 pub record PartsSound (s : List ℕ) (x : Contents) : Type 0 where
@@ -149,9 +142,7 @@ pub record PartsSound (s : List ℕ) (x : Contents) : Type 0 where
 pub parts-sound : (s : List ℕ) (x : Contents) → reading s ≡ sound x → PartsSound s x
 unfolding reading
 parts-sound s x e =
-    let (z, e₁, f₁) = both-sound (headOf s) _ e in
-    let (q, e₂, f₂) = both-sound (settingOf s z) _ f₁ in
-    let (is, e₃, f₃) = both-sound (claimsOf s z) _ f₂ in
+    let (z, e₁, (q, e₂, (is, e₃, all))) = simp parts at e in
     let p : z ≡ sizeIn s = head-sound s z e₁ .size in
     let r : record { setting = q; claims = is } ≡ x = cc in
     subst (PartsSound s) r (record { head = e₁ ∙ ap sound p; setting = ap (settingOf s) (sym p) ∙ e₂; claims = ap (claimsOf s) (sym p) ∙ e₃ })

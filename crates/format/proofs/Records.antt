@@ -3,7 +3,7 @@ use mathlib.Core.Path.{_≡_, refl, sym, ap, _∙_, subst}
 use mathlib.Core.Logic.{_↔_}
 use mathlib.Core.Bool.{true}
 use mathlib.Core.List.{List, [], _∷_, _++_, map}
-use Prim.Native.Nat.{ℕ, _+_, _*_, _≤_, _<_}
+use Prim.Native.Nat.{ℕ, _+_, _*_, _≤_}
 use native.Mathlib.Omega.{arith}
 use lib.ListN.{length, length-append, length-map}
 use Rattle.signed.specs.Twos.{twos8}
@@ -13,7 +13,7 @@ use Rattle.nets.specs.Verdicts.{Target}
 use Rattle.format.specs.Read.{sound}
 use Rattle.format.specs.Contents.{Claim}
 use Rattle.format.specs.Reading.{byte, signedWord, bytes, words, eachFits, headSize, transitionSize, startSize, targetSize, claimSize, Size, sizeOf, headOf, transitionIn, transitionAt, startAt, kindOf, targetAt, claimIn, claimAt, claimDue}
-use Rattle.format.specs.Formed.{All, Row, IsWeight, IsTokens, FormedTransition, FormedClaim}
+use Rattle.format.specs.Formed.{All, IsSheet, Row, IsWeight, IsTokens, FormedTransition, FormedClaim}
 use Rattle.format.specs.Encoding.{joined, wordBytes, signedByte, signedBytes, kindByte, transitionBytes, startBytes, targetBytes, claimBytes}
 use Rattle.format.proofs.Everywhere.{all-left, all-right, all-append}
 use Rattle.format.proofs.Standing.{Stands, stands-there, stands-append, stands-left, stands-right, length-bytes, stands-bytes, bytes-stand}
@@ -88,7 +88,7 @@ module _ (s : List ℕ) where
         ),
   )
 
-module _ (s : List ℕ) (small : All (λ b. b < 256) s) where
+module _ (s : List ℕ) (small : IsSheet s) where
   -- MK
   pub start-exactly : (n at : ℕ) (m : Marking) → (startAt s n at ≡ sound m) ↔ (Row n IsTokens m × Stands s at (startBytes m))
   unfolding startAt

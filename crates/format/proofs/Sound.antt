@@ -2,31 +2,19 @@
 use mathlib.Core.Path.{_≡_, refl}
 use mathlib.Core.Bool.{Bool, true, false, cond}
 use mathlib.Core.List.{List}
-use Prim.Native.Nat.{ℕ, _+_, _*_, _≤_, _<_}
+use Prim.Native.Nat.{ℕ, _+_, _≤_, _<_}
 use native.Mathlib.Omega.{arith}
-use lib.Dec.{leb, ltb}
+use lib.Dec.{leb}
 use lib.ListN.{length}
-use borrow.Author.Tests.{leb-true, ltb-true}
-use Rattle.terms.specs.Limits.{placesFit, transitionsFit, weightFits, kindFits, coefficientFits, constantFits}
-use Rattle.signed.specs.Twos.{twos8}
+use borrow.Author.Tests.{leb-true}
+use Rattle.terms.specs.Limits.{placesFit}
 use Rattle.nets.specs.Nets.{Marking, Transition}
 use Rattle.nets.specs.Verdicts.{Target}
-use Rattle.format.specs.Read.{Read, sound, refused, _>>=_, _>>_, need}
+use Rattle.format.specs.Read.{sound}
 use Rattle.format.specs.Contents.{Claim}
-use Rattle.format.specs.Reading.{byte, words, signedWord, markedAt, wholeAt, openedAt, eachFits, headSize, transitionSize, startSize, targetSize, claimSize, Size, sizeOf, headOf, transitionIn, transitionAt, startAt, targetIn, targetAt, claimIn, claimAt, claimDue}
-
--- one part after another
-pub both-sound : {A B : Type 0} (x : Read A) (f : A → Read B) {b : B} → (x >>= f) ≡ sound b → (a : A) × (x ≡ sound a) × (f a ≡ sound b)
-both-sound (sound a) f e = (a, refl, e)
-both-sound (refused r) f e = absurd (let z : _≡_ {A = ℕ} 0 1 = cc in omega arith)
-
-pub then-sound : {A B : Type 0} (x : Read A) (y : Read B) {b : B} → (x >> y) ≡ sound b → (a : A) × (x ≡ sound a) × (y ≡ sound b)
-then-sound (sound a) y e = (a, refl, e)
-then-sound (refused r) y e = absurd (let z : _≡_ {A = ℕ} 0 1 = cc in omega arith)
-
-pub need-sound : (t : Bool) (k at : ℕ) → need t k at ≡ sound tt → t ≡ true
-need-sound true k at e = refl
-need-sound false k at e = absurd (let z : _≡_ {A = ℕ} 0 1 = cc in omega arith)
+use Rattle.format.specs.Reading.{byte, words, wholeAt, openedAt, transitionSize, startSize, targetSize, claimSize, Size, sizeOf, headOf, transitionIn, transitionAt, startAt, targetIn, targetAt, claimIn, claimAt, claimDue}
+use Rattle.format.proofs.Parts.{parts, ltb-exactly}
+use Rattle.format.proofs.Fields.{whole-exactly, opened-exactly}
 
 pub cond-true : (a b : Bool) → cond a b false ≡ true → (a ≡ true) × (b ≡ true)
 cond-true true b e = (refl, e)
@@ -34,12 +22,10 @@ cond-true false b e = absurd (let z : _≡_ {A = ℕ} 0 1 = cc in omega arith)
 
 -- the whole record stands in the sheet
 pub whole-sound : (s : List ℕ) (at size : ℕ) → wholeAt s at size ≡ sound tt → at + size ≤ length s
-unfolding wholeAt
-whole-sound s at size e = leb-true _ _ (need-sound _ _ _ e)
+whole-sound s at size e = whole-exactly s at size .0 e
 
 pub opened-sound : (s : List ℕ) (at first second size : ℕ) → openedAt s at first second size ≡ sound tt → at + size ≤ length s
-unfolding openedAt
-opened-sound s at first second size e = whole-sound s at size (then-sound (markedAt s at first second) _ e .2)
+opened-sound s at first second size e = opened-exactly s at first second size .0 e .1
 
 -- NP
 pub places-fit : (n : ℕ) → placesFit n ≡ true → (1 ≤ n) × (n ≤ 16)
@@ -55,51 +41,33 @@ pub record HeadSound (s : List ℕ) (z : Size) : Type 0 where
 pub head-sound : (s : List ℕ) (z : Size) → headOf s ≡ sound z → HeadSound s z
 unfolding headOf
 head-sound s z e =
-    let (u, opened, e₁) = then-sound (openedAt s 0 0x4E 0x50 headSize) _ e in
-    let (v, n, e₂) = then-sound (need (placesFit (byte s 2)) 3 2) _ e₁ in
-    let (w, T, e₃) = then-sound (need (transitionsFit (byte s 3)) 3 3) _ e₂ in
-    let fits = places-fit (byte s 2) (need-sound _ _ _ n) in
-    record {
-      size = cc;
-      whole = omega (arith, opened-sound s 0 0x4E 0x50 headSize opened);
-      some = fits .0;
-      places = fits .1;
-      transitions = leb-true _ _ (need-sound _ _ _ T);
-    }
+    let (opened, (n, (T, all))) = simp (parts, opened-exactly) at e in
+    let fits = places-fit (byte s 2) n in
+    record { size = cc; whole = opened .1; some = fits .0; places = fits .1; transitions = leb-true (byte s 3) 64 T }
 
 -- TR, MK, TG and HS: what is held is what stands there
 pub transition-sound : (s : List ℕ) (n at : ℕ) (t : Transition) → transitionAt s n at ≡ sound t → (t ≡ transitionIn s n at) × (at + transitionSize n ≤ length s)
 unfolding transitionAt
 transition-sound s n at t e =
-    let (u, opened, e₁) = then-sound (openedAt s at 0x54 0x52 (transitionSize n)) _ e in
-    let (v, fits, e₂) = then-sound (eachFits weightFits 4 s (at + 2) (2 * n)) _ e₁ in
-    (cc, opened-sound s at 0x54 0x52 (transitionSize n) opened)
+    let (opened, (fits, all)) = simp (parts, opened-exactly) at e in (cc, opened .1)
 
 pub start-sound : (s : List ℕ) (n at : ℕ) (m : Marking) → startAt s n at ≡ sound m → (m ≡ words s (at + 2) n) × (at + startSize n ≤ length s)
 unfolding startAt
 start-sound s n at m e =
-    let (u, opened, e₁) = then-sound (openedAt s at 0x4D 0x4B (startSize n)) _ e in
-    (cc, opened-sound s at 0x4D 0x4B (startSize n) opened)
+    let (opened, all) = simp (parts, opened-exactly) at e in (cc, opened .1)
 
 pub target-sound : (s : List ℕ) (n at : ℕ) (g : Target) → targetAt s n at ≡ sound g → (g ≡ targetIn s n at) × (at + targetSize n ≤ length s)
 unfolding targetAt
 target-sound s n at g e =
-    let (u, opened, e₁) = then-sound (openedAt s at 0x54 0x47 (targetSize n)) _ e in
-    let (v, fits, e₂) = then-sound (need (kindFits (byte s (at + 2))) 5 (at + 2)) _ e₁ in
-    (cc, opened-sound s at 0x54 0x47 (targetSize n) opened)
+    let (opened, (fits, all)) = simp (parts, opened-exactly) at e in (cc, opened .1)
 
 pub claim-sound : (s : List ℕ) (n at : ℕ) (i : Claim) → claimAt s n at ≡ sound i → (i ≡ claimIn s n at) × (at + claimSize n ≤ length s)
 unfolding claimAt
 claim-sound s n at i e =
-    let (u, whole, e₁) = then-sound (wholeAt s at (claimSize n)) _ e in
-    let (v, fits, e₂) = then-sound (eachFits (λ b. coefficientFits (twos8 b)) 6 s (at + 2) n) _ e₁ in
-    let (w, constant, e₃) = then-sound (need (constantFits (signedWord s (at + 2 + n))) 7 (at + 2 + n)) _ e₂ in
-    (cc, whole-sound s at (claimSize n) whole)
+    let (whole, (fits, (constant, all))) = simp (parts, whole-exactly) at e in (cc, whole)
 
 pub due-sound : (s : List ℕ) (n at more : ℕ) (i : Claim) → claimDue s n at more ≡ sound i → (i ≡ claimIn s n at) × (at + claimSize n ≤ length s) × (0 < more)
 unfolding claimDue
 due-sound s n at more i e =
-    let (u, marked, e₁) = then-sound (markedAt s at 0x48 0x53) _ e in
-    let (v, due, e₂) = then-sound (need (ltb 0 more) 8 at) _ e₁ in
-    let (here, whole) = claim-sound s n at i e₂ in
-    (here, whole, ltb-true 0 more (need-sound _ _ _ due))
+    let (marked, (due, all)) = simp (parts, ltb-exactly) at e in
+    let (here, whole) = claim-sound s n at i all in (here, whole, due)

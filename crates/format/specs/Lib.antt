@@ -3,3 +3,4 @@ pub mod Contents
 pub mod Reading
 pub mod Formed
 pub mod Encoding
+pub mod Answers

@@ -28,3 +28,8 @@ countedOf z (refused r) = Malformed r
 abbrev pub answerOf : Read Contents → Reading
 answerOf (sound x) = Sound (countsOf x)
 answerOf (refused r) = Malformed r
+
+-- a sheet's answer as a check
+abbrev pub checkOf : Reading → Check
+checkOf (Sound k) = Fine
+checkOf (Malformed r) = Refused r

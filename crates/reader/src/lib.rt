@@ -1,7 +1,7 @@
 // The reader of sheets: document 01, "What the sheet holds" and "Numbers that say no".
 ghost use mathlib.Core.Path.{_≡_};
 ghost use Rattle.format.specs.Reading.{reading};
-ghost use Rattle.reader.specs.Answers.{answerOf};
+ghost use Rattle.reader.specs.Answers.{checkOf, answerOf};
 
 mod fields; // fields.rt: marks, lengths and fields of one kind
 pub mod layout; // layout.rt: where the records stand
@@ -27,6 +27,18 @@ pub struct Counts {
 pub enum Reading {
     Sound(Counts),
     Malformed(Refusal),
+}
+
+impl Reading {
+    // Fine, or the sheet's refusal, for a call to pass on.
+    pub fn check(self) -> Check
+        ensures { λ r. ⌜ r ≡ checkOf self ⌝ }
+    {
+        match self {
+            Reading::Sound(_) => Check::Fine,
+            Reading::Malformed(r) => Check::Refused(r),
+        }
+    }
 }
 
 // Reads a sheet, left to right and once: its counts, or the refusal of its first fault.

@@ -10,6 +10,7 @@ use lib.IntN.{ℤ, pos}
 use Rattle.signed.specs.Twos.{twos8}
 use Rattle.nets.specs.HalfSpaces.{sixteen}
 use Rattle.format.specs.Reading.{byte, word, bytes, words}
+use Rattle.format.proofs.Standing.{length-bytes}
 
 abbrev pub filled : {A : Type 0} → A → List A → ℕ → List A
 filled z xs i = take i xs ++ replicate (16 - i) z
@@ -26,11 +27,6 @@ module _ {A : Type 0} (z : A) (xs : List A) (i : ℕ) where
   filled-all l m =
       let h : i ≡ length xs = omega arith in
       rw (take-all i xs l, h)
-
-pub length-row : (s : List ℕ) (at n : ℕ) → length (bytes s at n) ≡ n
-unfolding bytes
-length-row s at zero = refl
-length-row s at (suc n) = ap suc (length-row s (at + 1) n)
 
 pub byte-in : (s : List ℕ) (at n i : ℕ) → i < n → getD (bytes s at n) i 0 ≡ byte s (at + i)
 unfolding bytes
@@ -50,7 +46,7 @@ word-in s at (suc n) zero l = ap (word s) (omega arith)
 word-in s at (suc n) (suc i) l = word-in s (at + 2) n i (omega arith) ∙ ap (word s) (omega arith)
 
 pub length-signed : (s : List ℕ) (at n : ℕ) → length (map twos8 (bytes s at n)) ≡ n
-length-signed s at n = length-map (bytes s at n) twos8 ∙ length-row s at n
+length-signed s at n = length-map (bytes s at n) twos8 ∙ length-bytes s at n
 
 pub signed-in : (s : List ℕ) (at n i : ℕ) → i < n → getD (map twos8 (bytes s at n)) i (pos 0) ≡ twos8 (byte s (at + i))
 signed-in s at n i l = List·getD-map twos8 (bytes s at n) i 0 ∙ ap twos8 (byte-in s at n i l)

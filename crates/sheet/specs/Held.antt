@@ -1,10 +1,9 @@
 -- What the calls answer for what a sheet holds: the sheet's refusal, then 11 or 12, then the numbers, sixteen of them and zero beyond place n.
-use mathlib.Core.Bool.{Bool, cond, false}
 use mathlib.Core.List.{List, []}
 use Prim.Native.Nat.{ℕ}
-use lib.Dec.{leb}
 use lib.IntN.{ℤ, pos}
 use lib.ListN.{length}
+use Rattle.terms.specs.Limits.{among}
 use Rattle.terms.specs.Refusals.{notAClaim, notATransition}
 use Rattle.terms.specs.declared.Transition.{Transition}
 use Rattle.terms.specs.declared.Claim.{Claim}
@@ -21,10 +20,6 @@ use Rattle.sheet.specs.declared.Target.{Target}
 use Rattle.sheet.specs.declared.Kind.{Kind}
 use Rattle.sheet.specs.declared.Kind.the-variants.{Exact, AtOrAbove}
 use Rattle.sheet.specs.declared.HalfSpace.{HalfSpace}
-
--- a number counted from 1, of so many
-abbrev pub among : ℕ → ℕ → Bool
-among i count = cond (leb 1 i) (leb i count) false
 
 -- 11: claim number 0 or above the count
 abbrev pub claimCheck : Read Contents → Claim → Check
@@ -53,13 +48,13 @@ startOf (refused r) = record { answer = Refused r; tokens = sixteen 0 [] }
 startOf (sound x) = record { answer = Fine; tokens = sixteen 0 (x .setting .start) }
 
 -- kind and target
-abbrev pub kindOf : verdicts.Kind → Kind
-kindOf verdicts.exact = Exact
-kindOf verdicts.atOrAbove = AtOrAbove
+abbrev pub kindIs : verdicts.Kind → Kind
+kindIs verdicts.exact = Exact
+kindIs verdicts.atOrAbove = AtOrAbove
 
 abbrev pub targetOf : Read Contents → Target
 targetOf (refused r) = record { answer = Refused r; kind = Exact; tokens = sixteen 0 [] }
-targetOf (sound x) = record { answer = Fine; kind = kindOf (x .setting .target .kind); tokens = sixteen 0 (x .setting .target .tokens) }
+targetOf (sound x) = record { answer = Fine; kind = kindIs (x .setting .target .kind); tokens = sixteen 0 (x .setting .target .tokens) }
 
 -- coefficients and constant of claim i
 abbrev pub noHalfSpace : Check → HalfSpace

@@ -1,7 +1,25 @@
-// What a sheet holds: document 01, "What the sheet holds". Each call reads the whole sheet first.
+// What a sheet holds: document 01, "What the sheet holds". Each call reads the whole sheet first and passes its refusal on.
+ghost use mathlib.Core.Path.{_≡_};
+ghost use Rattle.format.specs.Reading.{reading, kindOf};
+ghost use Rattle.sheet.specs.Held.{kindIs, claimCheck, weightsOf, startOf, targetOf, halfSpaceOf, noWeights, noHalfSpace};
+
 mod rows; // rows.rt: sixteen numbers of one kind
 
 use reader::Check;
+use reader::Reading;
+use reader::layout::behind_claims;
+use reader::layout::behind_transitions;
+use reader::layout::target_from;
+use reader::read;
+use rows::coefficients_from;
+use rows::tokens_from;
+use rows::weights_from;
+use terms::Claim;
+use terms::Constant;
+use terms::Place;
+use terms::Refusal;
+use terms::Transition;
+use terms::among;
 
 pub struct Weights {
     pub answer: Check,
@@ -20,6 +38,14 @@ pub enum Kind {
     AtOrAbove,
 }
 
+impl Kind {
+    fn of_byte(b: u8) -> Kind
+        ensures { λ r. ⌜ r ≡ kindIs (kindOf b) ⌝ }
+    {
+        if b == 0 { Kind::Exact } else { Kind::AtOrAbove }
+    }
+}
+
 pub struct Target {
     pub answer: Check,
     pub kind: Kind,
@@ -30,4 +56,130 @@ pub struct HalfSpace {
     pub answer: Check,
     pub coefficients: [i8; 16],
     pub constant: i16,
+}
+
+impl Weights {
+    fn refused(answer: Check) -> Weights
+        ensures { λ r. ⌜ r ≡ noWeights answer ⌝ }
+    {
+        Weights {
+            answer,
+            taken: [0u8; Place::MOST],
+            put: [0u8; Place::MOST],
+        }
+    }
+}
+
+impl HalfSpace {
+    fn refused(answer: Check) -> HalfSpace
+        ensures { λ r. ⌜ r ≡ noHalfSpace answer ⌝ }
+    {
+        HalfSpace {
+            answer,
+            coefficients: [0i8; Place::MOST],
+            constant: 0,
+        }
+    }
+}
+
+// The weights that a transition takes and puts.
+pub fn weights_of(sheet: &[u8], t: Transition) -> Weights
+    ensures { λ r. ⌜ r ≡ weightsOf (reading (now (sheet .entry))) t ⌝ }
+{
+    let answer = read(sheet);
+    let Reading::Sound(counts) = answer else {
+        return Weights::refused(answer.check());
+    };
+    let there = among(t.0, counts.transitions);
+    if !there {
+        return Weights::refused(Check::Refused(Refusal::no_transition(t)));
+    }
+    let n = counts.places;
+    let at = behind_transitions(n, t.0 - 1);
+    let taken = weights_from(sheet, at + 2, n);
+    let put = weights_from(sheet, at + 2 + n, n);
+    Weights {
+        answer: Check::Fine,
+        taken,
+        put,
+    }
+}
+
+pub fn start_of(sheet: &[u8]) -> Start
+    ensures { λ r. ⌜ r ≡ startOf (reading (now (sheet .entry))) ⌝ }
+{
+    let answer = read(sheet);
+    let Reading::Sound(counts) = answer else {
+        return Start {
+            answer: answer.check(),
+            tokens: [0u16; Place::MOST],
+        };
+    };
+    let n = counts.places;
+    let at = behind_transitions(n, counts.transitions);
+    let tokens = tokens_from(sheet, at + 2, n);
+    Start {
+        answer: Check::Fine,
+        tokens,
+    }
+}
+
+pub fn target_of(sheet: &[u8]) -> Target
+    ensures { λ r. ⌜ r ≡ targetOf (reading (now (sheet .entry))) ⌝ }
+{
+    let answer = read(sheet);
+    let Reading::Sound(counts) = answer else {
+        return Target {
+            answer: answer.check(),
+            kind: Kind::Exact,
+            tokens: [0u16; Place::MOST],
+        };
+    };
+    let n = counts.places;
+    let at = target_from(n, counts.transitions);
+    let kind = Kind::of_byte(sheet[at + 2]);
+    let tokens = tokens_from(sheet, at + 3, n);
+    Target {
+        answer: Check::Fine,
+        kind,
+        tokens,
+    }
+}
+
+// The coefficients and the constant of a claim.
+pub fn half_space_of(sheet: &[u8], i: Claim) -> HalfSpace
+    ensures { λ r. ⌜ r ≡ halfSpaceOf (reading (now (sheet .entry))) i ⌝ }
+{
+    let answer = read(sheet);
+    let Reading::Sound(counts) = answer else {
+        return HalfSpace::refused(answer.check());
+    };
+    let there = among(i.0, counts.claims);
+    if !there {
+        return HalfSpace::refused(Check::Refused(Refusal::no_claim(i)));
+    }
+    let n = counts.places;
+    let at = behind_claims(n, counts.transitions, i.0 - 1);
+    let coefficients = coefficients_from(sheet, at + 2, n);
+    let constant = Constant::of_bytes(sheet[at + 2 + n], sheet[at + 3 + n]);
+    HalfSpace {
+        answer: Check::Fine,
+        coefficients,
+        constant: constant.0,
+    }
+}
+
+// The refusal of a claim's record, or that there is none.
+pub fn claim_check(sheet: &[u8], i: Claim) -> Check
+    ensures { λ r. ⌜ r ≡ claimCheck (reading (now (sheet .entry))) i ⌝ }
+{
+    let answer = read(sheet);
+    let Reading::Sound(counts) = answer else {
+        return answer.check();
+    };
+    let there = among(i.0, counts.claims);
+    if !there {
+        return Check::Refused(Refusal::no_claim(i));
+    }
+    Check::Fine
 }

@@ -31,3 +31,7 @@ kindFits k = leb k 1
 -- claims, at most 32
 abbrev pub mostClaims : ℕ
 mostClaims = 32
+
+-- a number counted from 1, of so many
+abbrev pub among : ℕ → ℕ → Bool
+among i count = cond (leb 1 i) (leb i count) false

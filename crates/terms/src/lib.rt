@@ -1,8 +1,8 @@
 // The words of document 01 as types: numbers of places, transitions and claims, the limits of each field, and refusals.
 ghost use mathlib.Core.Path.{_≡_};
 ghost use Rattle.signed.specs.Twos.{twos8, twos16};
-ghost use Rattle.terms.specs.Limits.{placesFit, transitionsFit, weightFits, coefficientFits, constantFits};
-ghost use Rattle.terms.specs.Refusals.{detailOf, refusedAt};
+ghost use Rattle.terms.specs.Limits.{among as isAmong, placesFit, transitionsFit, weightFits, coefficientFits, constantFits};
+ghost use Rattle.terms.specs.Refusals.{detailOf, refusedAt, notAClaim, notATransition};
 
 // Places, transitions and claims are counted apart, each from 1: none is ever taken for another.
 pub struct Place(pub usize);
@@ -21,6 +21,13 @@ impl Transition {
 
 impl Claim {
     pub const MOST: usize = 32;
+}
+
+// Is `i` one of `count` numbers that are counted from 1?
+pub fn among(i: usize, count: usize) -> bool
+    ensures { λ r. ⌜ r ≡ isAmong i count ⌝ }
+{
+    if i < 1 { false } else { i <= count }
 }
 
 // A weight taken or put.
@@ -125,6 +132,24 @@ impl Refusal {
         Refusal {
             number,
             detail: Detail::Byte(at),
+        }
+    }
+
+    pub fn no_claim(i: Claim) -> Refusal
+        ensures { λ r. ⌜ r ≡ notAClaim i ⌝ }
+    {
+        Refusal {
+            number: 11,
+            detail: Detail::OfClaim(i),
+        }
+    }
+
+    pub fn no_transition(t: Transition) -> Refusal
+        ensures { λ r. ⌜ r ≡ notATransition t ⌝ }
+    {
+        Refusal {
+            number: 12,
+            detail: Detail::OfTransition(t),
         }
     }
 

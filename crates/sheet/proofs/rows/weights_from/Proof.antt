@@ -4,7 +4,8 @@ use native.Mathlib.Omega.{arith}
 use Prim.Native.Nat.{_+_, _*_, _-_, _≤_}
 use lib.ListN.{length, set}
 use Rattle.format.specs.Reading.{byte, word, bytes, words}
-use Rattle.sheet.proofs.Filled.{filled, filled-step, filled-all, length-row, byte-in}
+use Rattle.format.proofs.Standing.{length-bytes}
+use Rattle.sheet.proofs.Filled.{filled, filled-step, filled-all, byte-in}
 use borrow.Author.Needs.{needs}
 use Rattle.sheet.proofs.rows.weights_from.Statement.{statement}
 use Rattle.sheet.proofs.rows.weights_from.Tie as tie
@@ -37,13 +38,13 @@ loop-again : tie.Need-loop-again Inv-loop μ-loop
 loop-again c =
     let a = c .before .before .before .args in
     let l = c .before .before .loop in
-    (omega arith, ap (λ r. set r (l .p) (byte (a .s .now) (a .at + l .p))) (l .inv .1) ∙ filled-step 0 (bytes (a .s .now) (a .at) (a .n)) (l .p) (byte (a .s .now) (a .at + l .p)) (omega (arith, length-row (a .s .now) (a .at) (a .n))) (omega arith) (byte-in (a .s .now) (a .at) (a .n) (l .p) (omega arith) ∙ refl))
+    (omega arith, ap (λ r. set r (l .p) (byte (a .s .now) (a .at + l .p))) (l .inv .1) ∙ filled-step 0 (bytes (a .s .now) (a .at) (a .n)) (l .p) (byte (a .s .now) (a .at + l .p)) (omega (arith, length-bytes (a .s .now) (a .at) (a .n))) (omega arith) (byte-in (a .s .now) (a .at) (a .n) (l .p) (omega arith) ∙ refl))
 
 returns : tie.Need-returns Inv-loop μ-loop
 returns c =
     let a = c .before .before .args in
     let l = c .before .loop in
-    l .inv .1 ∙ filled-all 0 (bytes (a .s .now) (a .at) (a .n)) (l .p) (omega (arith, length-row (a .s .now) (a .at) (a .n))) (omega (arith, length-row (a .s .now) (a .at) (a .n)))
+    l .inv .1 ∙ filled-all 0 (bytes (a .s .now) (a .at) (a .n)) (l .p) (omega (arith, length-bytes (a .s .now) (a .at) (a .n))) (omega (arith, length-bytes (a .s .now) (a .at) (a .n)))
 
 pub weights-from-spec : {M : Type 1} → statement M
 weights-from-spec =
