@@ -43,8 +43,11 @@ weightsOf (refused r) t = noWeights (Refused r)
 weightsOf (sound x) t = choose (among (t .0) (length (x .setting .net .transitions))) (weightsIn x (t .0)) (noWeights (Refused (notATransition t)))
 
 -- the start
+abbrev pub noStart : Check → Start
+noStart answer = record { answer = answer; tokens = sixteen 0 [] }
+
 abbrev pub startOf : Read Contents → Start
-startOf (refused r) = record { answer = Refused r; tokens = sixteen 0 [] }
+startOf (refused r) = noStart (Refused r)
 startOf (sound x) = record { answer = Fine; tokens = sixteen 0 (x .setting .start) }
 
 -- kind and target
@@ -52,8 +55,11 @@ abbrev pub kindIs : verdicts.Kind → Kind
 kindIs verdicts.exact = Exact
 kindIs verdicts.atOrAbove = AtOrAbove
 
+abbrev pub noTarget : Check → Target
+noTarget answer = record { answer = answer; kind = Exact; tokens = sixteen 0 [] }
+
 abbrev pub targetOf : Read Contents → Target
-targetOf (refused r) = record { answer = Refused r; kind = Exact; tokens = sixteen 0 [] }
+targetOf (refused r) = noTarget (Refused r)
 targetOf (sound x) = record { answer = Fine; kind = kindIs (x .setting .target .kind); tokens = sixteen 0 (x .setting .target .tokens) }
 
 -- coefficients and constant of claim i

@@ -1,48 +1,65 @@
+-- `claim_check` meets its contract: the sheet's refusal is passed on, and then the number decides.
+use mathlib.Core.Path.{_≡_, refl, _∙_, sym, ap}
+use mathlib.Core.Bool.{true, false}
+use native.Mathlib.Omega.{arith}
+use borrow.Author.Tests.{not-true, not-false}
+use lib.ListN.{length}
+use Rattle.terms.specs.Limits.{among}
+use Rattle.terms.specs.Refusals.{notAClaim, notATransition}
+use Rattle.format.specs.Read.{choose}
+use Rattle.format.specs.Reading.{byte, bytes, words, signedWord, transitionIn, targetIn, claimIn, reading}
+use Rattle.format.proofs.Places.{held}
+use Rattle.reader.specs.Answers.{checkOf}
+use Rattle.reader.specs.declared.Check.the-variants.{Fine, Refused}
+use Rattle.sheet.specs.Held.{claimCheck}
+use Rattle.sheet.proofs.Taken.{sound-answer, refused-answer, c-is}
 use borrow.Author.Needs.{needs}
 use Rattle.sheet.proofs.claim_check.Statement.{statement}
 use Rattle.sheet.proofs.claim_check.Tie as tie
-use Rattle.sheet.proofs.claim_check.Reads as reads
-use Rattle.sheet.proofs.claim_check.Lts as lts
-use Rattle.reader.proofs.Reading.check.Reads as check-reads
-use Rattle.reader.proofs.read.Reads as read-reads
-use Rattle.terms.proofs.Refusal.no_claim.Reads as no-claim-reads
-use Rattle.terms.proofs.among.Reads as among-reads
 
--- src/lib.rt:176:9
 read-requires : tie.Need-read-requires
 read-requires c κs = search needs
 
--- src/lib.rt:177:24
 enum-known-answer : tie.Need-enum-known-answer
 enum-known-answer c = search needs
 
--- src/lib.rt:178:9
 enum-told : tie.Need-enum-told
 enum-told c = search needs
 
--- src/lib.rt:178:9
 check-requires : tie.Need-check-requires
 check-requires c κs = search needs
 
--- src/lib.rt:178:9
 returns : tie.Need-returns
-returns c = ?
+returns c = 
+    let a = c .before .before .before .before .before .args in
+    let e = refused-answer (reading (a .sheet .now)) (sym (c .before .before .before .read .ensures) ∙ c .before .enum-told .given .1) in
+    c .check .ensures ∙ ap checkOf (c .before .enum-told .given .1) ∙ ap (λ y. claimCheck y (a .i)) (sym e)
 
--- src/lib.rt:180:9
 among-requires : tie.Need-among-requires
 among-requires c κs = search needs
 
--- src/lib.rt:182:31
 no-claim-requires : tie.Need-no-claim-requires
 no-claim-requires c κs = search needs
 
--- src/lib.rt:182:9
 returns-2 : tie.Need-returns-2
-returns-2 c = ?
+returns-2 c = 
+    let a = c .before .before .before .before .before .before .before .before .args in
+    let k = c .before .before .before .before .answer .given .0 .0 in
+    let x = sound-answer (reading (a .sheet .now)) (sym (c .before .before .before .before .before .before .read .ensures) ∙ c .before .before .before .before .answer .given .1) in
+    let h = held (a .sheet .now) (x .0) (x .1) in
+    let no : among (a .i .0) (length (x .0 .claims)) ≡ false =
+        ap (among (a .i .0)) (sym (c-is (a .sheet .now) (x .0) k h (x .2))) ∙ sym (c .before .before .among .ensures) ∙ not-true (c .before .before .among .result) (c .before .if1 .taken) in
+    ap Refused (c .no-claim .ensures) ∙ sym (ap (λ y. claimCheck y (a .i)) (x .1) ∙ ap (λ t. choose t Fine (Refused (notAClaim (a .i)))) no)
 
--- src/lib.rt:173:1
 returns-3 : tie.Need-returns-3
-returns-3 c = ?
+returns-3 c = 
+    let a = c .before .before .before .before .before .before .before .args in
+    let k = c .before .before .before .answer .given .0 .0 in
+    let x = sound-answer (reading (a .sheet .now)) (sym (c .before .before .before .before .before .read .ensures) ∙ c .before .before .before .answer .given .1) in
+    let h = held (a .sheet .now) (x .0) (x .1) in
+    let yes : among (a .i .0) (length (x .0 .claims)) ≡ true =
+        ap (among (a .i .0)) (sym (c-is (a .sheet .now) (x .0) k h (x .2))) ∙ sym (c .before .among .ensures) ∙ not-false (c .before .among .result) (c .if1 .left) in
+    sym (ap (λ y. claimCheck y (a .i)) (x .1) ∙ ap (λ t. choose t Fine (Refused (notAClaim (a .i)))) yes)
 
 pub claim-check-spec : {M : Type 1} → statement M
 claim-check-spec =

@@ -1,104 +1,161 @@
+-- `half_space_of` meets its contract: the sheet's refusal is passed on, then 11, and claim i stands behind the i - 1 before it.
+use mathlib.Core.Path.{_≡_, refl, _∙_, sym, ap, ap₂}
+use mathlib.Core.Bool.{true, false}
+use native.Mathlib.Omega.{arith}
+use borrow.Author.Tests.{not-true, not-false}
+use mathlib.Core.List.{List}
+use lib.IntN.{ℤ, pos}
+use mir.Syntax.{w16}
+use mir.Val.{SFits}
+use mir.Facts.{toZ-ofZ}
+use Rattle.signed.specs.Twos.{twos16}
+use Prim.Native.Nat.{ℕ, _+_, _*_, _-_, _≤_}
+use lib.ListN.{length}
+use Rattle.terms.specs.Limits.{among}
+use Rattle.terms.specs.Refusals.{notAClaim}
+use Rattle.format.specs.Reading.{byte, bytes, words, signedWord, transitionIn, targetIn, claimIn, reading}
+use Rattle.format.proofs.Places.{held}
+use Rattle.format.specs.Read.{choose}
+use Rattle.nets.specs.HalfSpaces as spaces
+use Rattle.nets.specs.HalfSpaces.{sixteen}
+use Rattle.reader.specs.Answers.{checkOf}
+use Rattle.reader.specs.declared.Check.the-variants.{Fine, Refused}
+use Rattle.sheet.specs.Held.{noHalfSpace, halfSpaceIn, halfSpaceOf}
+use Rattle.sheet.specs.declared.HalfSpace.{HalfSpace}
+use Rattle.sheet.proofs.Taken.{sound-answer, refused-answer, among-some, c-is, most, claim-fits, claim-taken}
 use borrow.Author.Needs.{needs}
 use Rattle.sheet.proofs.half_space_of.Statement.{statement}
 use Rattle.sheet.proofs.half_space_of.Tie as tie
-use Rattle.sheet.proofs.half_space_of.Reads as reads
-use Rattle.sheet.proofs.half_space_of.Lts as lts
-use Rattle.reader.proofs.Reading.check.Reads as check-reads
-use Rattle.reader.proofs.layout.behind_claims.Reads as behind-claims-reads
-use Rattle.reader.proofs.read.Reads as read-reads
-use Rattle.sheet.proofs.HalfSpace.refused.Reads as refused-reads
-use Rattle.sheet.proofs.rows.coefficients_from.Reads as coefficients-from-reads
-use Rattle.terms.proofs.Constant.of_bytes.Reads as of-bytes-reads
-use Rattle.terms.proofs.Refusal.no_claim.Reads as no-claim-reads
-use Rattle.terms.proofs.among.Reads as among-reads
 
--- src/lib.rt:153:9
 read-requires : tie.Need-read-requires
 read-requires c κs = search needs
 
--- src/lib.rt:154:24
 enum-known-answer : tie.Need-enum-known-answer
 enum-known-answer c = search needs
 
--- src/lib.rt:155:35
 enum-told : tie.Need-enum-told
 enum-told c = search needs
 
--- src/lib.rt:155:35
 check-requires : tie.Need-check-requires
 check-requires c κs = search needs
 
--- src/lib.rt:155:9
 refused-requires : tie.Need-refused-requires
 refused-requires c κs = search needs
 
--- src/lib.rt:155:9
 returns : tie.Need-returns
-returns c = ?
+returns c = 
+    let a = c .before .before .before .before .before .before .args in
+    let e = refused-answer (reading (a .sheet .now)) (sym (c .before .before .before .before .read .ensures) ∙ c .before .before .enum-told .given .1) in
+    c .refused .ensures ∙ ap noHalfSpace (c .before .check .ensures ∙ ap checkOf (c .before .before .enum-told .given .1)) ∙ ap (λ y. halfSpaceOf y (a .i)) (sym e)
 
--- src/lib.rt:157:9
 among-requires : tie.Need-among-requires
 among-requires c κs = search needs
 
--- src/lib.rt:159:50
 no-claim-requires : tie.Need-no-claim-requires
 no-claim-requires c κs = search needs
 
--- src/lib.rt:159:9
 refused-requires-2 : tie.Need-refused-requires-2
 refused-requires-2 c κs = search needs
 
--- src/lib.rt:159:9
 returns-2 : tie.Need-returns-2
-returns-2 c = ?
+returns-2 c = 
+    let a = c .before .before .before .before .before .before .before .before .before .args in
+    let k = c .before .before .before .before .before .answer .given .0 .0 in
+    let x = sound-answer (reading (a .sheet .now)) (sym (c .before .before .before .before .before .before .before .read .ensures) ∙ c .before .before .before .before .before .answer .given .1) in
+    let h = held (a .sheet .now) (x .0) (x .1) in
+    let no : among (a .i .0) (length (x .0 .claims)) ≡ false =
+        ap (among (a .i .0)) (sym (c-is (a .sheet .now) (x .0) k h (x .2))) ∙ sym (c .before .before .before .among .ensures) ∙ not-true (c .before .before .before .among .result) (c .before .before .if1 .taken) in
+    c .refused2 .ensures ∙ ap (λ r. noHalfSpace (Refused r)) (c .before .no-claim .ensures) ∙ sym (ap (λ y. halfSpaceOf y (a .i)) (x .1) ∙ ap (λ t. choose t (halfSpaceIn (x .0) (a .i .0)) (noHalfSpace (Refused (notAClaim (a .i))))) no)
 
--- src/lib.rt:162:51
 sub-behind-claims : tie.Need-sub-behind-claims
-sub-behind-claims c = ?
+sub-behind-claims c = 
+    let a = c .before .before .before .before .before .before .before .before .args in
+    let k = c .before .before .before .before .answer .given .0 .0 in
+    let x = sound-answer (reading (a .sheet .now)) (sym (c .before .before .before .before .before .before .read .ensures) ∙ c .before .before .before .before .answer .given .1) in
+    let h = held (a .sheet .now) (x .0) (x .1) in
+    let yes : among (a .i .0) (k .claims) ≡ true = sym (c .before .before .among .ensures) ∙ not-false (c .before .before .among .result) (c .before .if1 .left) in
+    let i = among-some (a .i .0) (k .claims) yes in
+    omega (arith, i .0)
 
--- src/lib.rt:162:9
 behind-claims-requires : tie.Need-behind-claims-requires
-behind-claims-requires c κs = ?
+behind-claims-requires c κs = 
+    let a = c .before .before .before .before .before .before .before .before .args in
+    let k = c .before .before .before .before .answer .given .0 .0 in
+    let x = sound-answer (reading (a .sheet .now)) (sym (c .before .before .before .before .before .before .read .ensures) ∙ c .before .before .before .before .answer .given .1) in
+    let h = held (a .sheet .now) (x .0) (x .1) in
+    let yes : among (a .i .0) (k .claims) ≡ true = sym (c .before .before .among .ensures) ∙ not-false (c .before .before .among .result) (c .before .if1 .left) in
+    let i = among-some (a .i .0) (k .claims) yes in
+    let b = most (a .sheet .now) (x .0) k h (x .2) in
+    (b .0, b .1, omega (arith, i .1, b .2))
 
--- src/lib.rt:163:49
 add-coefficients-from : tie.Need-add-coefficients-from
 add-coefficients-from c = search needs
 
--- src/lib.rt:163:9
 coefficients-from-requires : tie.Need-coefficients-from-requires
-coefficients-from-requires c κs = ?
+coefficients-from-requires c κs = 
+    let a = c .before .before .before .before .before .before .before .before .before .args in
+    let k = c .before .before .before .before .before .answer .given .0 .0 in
+    let x = sound-answer (reading (a .sheet .now)) (sym (c .before .before .before .before .before .before .before .read .ensures) ∙ c .before .before .before .before .before .answer .given .1) in
+    let h = held (a .sheet .now) (x .0) (x .1) in
+    let yes : among (a .i .0) (k .claims) ≡ true = sym (c .before .before .before .among .ensures) ∙ not-false (c .before .before .before .among .result) (c .before .before .if1 .left) in
+    let i = among-some (a .i .0) (k .claims) yes in
+    (most (a .sheet .now) (x .0) k h (x .2) .0, omega (arith, claim-fits (a .sheet .now) (x .0) k h (x .2) (c .behind-claims .result) (a .i .0 - 1) (omega (arith, i .0, i .1)) (c .behind-claims .ensures .0)))
 
--- src/lib.rt:164:45
 add-of-bytes : tie.Need-add-of-bytes
 add-of-bytes c = search needs
 
--- src/lib.rt:164:45
 add-of-bytes-2 : tie.Need-add-of-bytes-2
 add-of-bytes-2 c = search needs
 
--- src/lib.rt:164:39
 shared-slice-read-of-bytes : tie.Need-shared-slice-read-of-bytes
-shared-slice-read-of-bytes c = ?
+shared-slice-read-of-bytes c = 
+    let a = c .before .before .before .before .before .before .before .before .before .before .before .args in
+    let k = c .before .before .before .before .before .before .before .answer .given .0 .0 in
+    let x = sound-answer (reading (a .sheet .now)) (sym (c .before .before .before .before .before .before .before .before .before .read .ensures) ∙ c .before .before .before .before .before .before .before .answer .given .1) in
+    let h = held (a .sheet .now) (x .0) (x .1) in
+    let yes : among (a .i .0) (k .claims) ≡ true = sym (c .before .before .before .before .before .among .ensures) ∙ not-false (c .before .before .before .before .before .among .result) (c .before .before .before .before .if1 .left) in
+    let i = among-some (a .i .0) (k .claims) yes in
+    omega (arith, claim-fits (a .sheet .now) (x .0) k h (x .2) (c .before .before .behind-claims .result) (a .i .0 - 1) (omega (arith, i .0, i .1)) (c .before .before .behind-claims .ensures .0))
 
--- src/lib.rt:164:64
 add-of-bytes-3 : tie.Need-add-of-bytes-3
 add-of-bytes-3 c = search needs
 
--- src/lib.rt:164:64
 add-of-bytes-4 : tie.Need-add-of-bytes-4
 add-of-bytes-4 c = search needs
 
--- src/lib.rt:164:58
 shared-slice-read-of-bytes-2 : tie.Need-shared-slice-read-of-bytes-2
-shared-slice-read-of-bytes-2 c = ?
+shared-slice-read-of-bytes-2 c = 
+    let a = c .before .before .before .before .before .before .before .before .before .before .before .before .args in
+    let k = c .before .before .before .before .before .before .before .before .answer .given .0 .0 in
+    let x = sound-answer (reading (a .sheet .now)) (sym (c .before .before .before .before .before .before .before .before .before .before .read .ensures) ∙ c .before .before .before .before .before .before .before .before .answer .given .1) in
+    let h = held (a .sheet .now) (x .0) (x .1) in
+    let yes : among (a .i .0) (k .claims) ≡ true = sym (c .before .before .before .before .before .before .among .ensures) ∙ not-false (c .before .before .before .before .before .before .among .result) (c .before .before .before .before .before .if1 .left) in
+    let i = among-some (a .i .0) (k .claims) yes in
+    omega (arith, claim-fits (a .sheet .now) (x .0) k h (x .2) (c .before .before .before .behind-claims .result) (a .i .0 - 1) (omega (arith, i .0, i .1)) (c .before .before .before .behind-claims .ensures .0))
 
--- src/lib.rt:164:9
 of-bytes-requires : tie.Need-of-bytes-requires
 of-bytes-requires c κs = search needs
 
--- src/lib.rt:150:1
 returns-3 : tie.Need-returns-3
-returns-3 c = ?
+returns-3 c = 
+    let a = c .before .before .before .before .before .before .before .before .before .before .before .before .before .before .args in
+    let k = c .before .before .before .before .before .before .before .before .before .before .answer .given .0 .0 in
+    let x = sound-answer (reading (a .sheet .now)) (sym (c .before .before .before .before .before .before .before .before .before .before .before .before .read .ensures) ∙ c .before .before .before .before .before .before .before .before .before .before .answer .given .1) in
+    let h = held (a .sheet .now) (x .0) (x .1) in
+    let yes : among (a .i .0) (length (x .0 .claims)) ≡ true =
+        ap (among (a .i .0)) (sym (c-is (a .sheet .now) (x .0) k h (x .2))) ∙ sym (c .before .before .before .before .before .before .before .before .among .ensures) ∙ not-false (c .before .before .before .before .before .before .before .before .among .result) (c .before .before .before .before .before .before .before .if1 .left) in
+    let these : among (a .i .0) (k .claims) ≡ true = sym (c .before .before .before .before .before .before .before .before .among .ensures) ∙ not-false (c .before .before .before .before .before .before .before .before .among .result) (c .before .before .before .before .before .before .before .if1 .left) in
+    let i = among-some (a .i .0) (k .claims) these in
+    let same : a .i .0 - 1 + 1 ≡ a .i .0 = omega (arith, i .0) in
+    let at = c .before .before .before .before .before .behind-claims .result in
+    let next : at + 3 + k .places ≡ at + 2 + k .places + 1 = omega arith in
+    let fits : SFits w16 (c .before .of-bytes .result .0) = search needs in
+    ap₂ {C = HalfSpace} (λ (q : List ℤ) (v : ℤ). record { answer = Fine; coefficients = q; constant = v })
+    (c .before .before .before .before .coefficients-from .ensures)
+    (toZ-ofZ fits ∙ c .before .of-bytes .ensures ∙ ap (λ (j : ℕ). twos16 (byte (a .sheet .now) (at + 2 + k .places)) (byte (a .sheet .now) j)) next)
+    ∙ ap {B = HalfSpace} (λ (g : spaces.HalfSpace). record { answer = Fine; coefficients = sixteen (pos 0) (g .coefficients); constant = g .constant }) (claim-taken (a .sheet .now) (x .0) k h (x .2) at (a .i .0 - 1) (omega (arith, i .0, i .1)) (c .before .before .before .before .before .behind-claims .ensures .0))
+    ∙ ap (halfSpaceIn (x .0)) same
+    ∙ sym (ap (λ y. halfSpaceOf y (a .i)) (x .1) ∙ ap (λ t. choose t (halfSpaceIn (x .0) (a .i .0)) (noHalfSpace (Refused (notAClaim (a .i))))) yes)
 
 pub half-space-of-spec : {M : Type 1} → statement M
 half-space-of-spec =

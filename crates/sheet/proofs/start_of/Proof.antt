@@ -1,48 +1,65 @@
+-- `start_of` meets its contract: the sheet's refusal is passed on, and a sound sheet's start stands behind its transitions.
+use mathlib.Core.Path.{_≡_, refl, _∙_, sym, ap}
+use native.Mathlib.Omega.{arith}
+use mathlib.Core.List.{List}
+use Prim.Native.Nat.{ℕ, _+_, _*_, _≤_}
+use Rattle.format.specs.Reading.{byte, bytes, words, signedWord, transitionIn, targetIn, claimIn, reading}
+use Rattle.format.proofs.Places.{held}
+use Rattle.nets.specs.HalfSpaces.{sixteen}
+use Rattle.reader.specs.Answers.{checkOf}
+use Rattle.reader.specs.declared.Check.the-variants.{Fine}
+use Rattle.sheet.specs.Held.{noStart, startOf}
+use Rattle.sheet.specs.declared.Start.{Start}
+use Rattle.sheet.proofs.Taken.{sound-answer, refused-answer, most, start-fits, start-taken}
 use borrow.Author.Needs.{needs}
 use Rattle.sheet.proofs.start_of.Statement.{statement}
 use Rattle.sheet.proofs.start_of.Tie as tie
-use Rattle.sheet.proofs.start_of.Reads as reads
-use Rattle.sheet.proofs.start_of.Lts as lts
-use Rattle.reader.proofs.Reading.check.Reads as check-reads
-use Rattle.reader.proofs.layout.behind_transitions.Reads as behind-transitions-reads
-use Rattle.reader.proofs.read.Reads as read-reads
-use Rattle.sheet.proofs.rows.tokens_from.Reads as tokens-from-reads
 
--- src/lib.rt:111:9
 read-requires : tie.Need-read-requires
 read-requires c κs = search needs
 
--- src/lib.rt:112:24
 enum-known-answer : tie.Need-enum-known-answer
 enum-known-answer c = search needs
 
--- src/lib.rt:114:21
 enum-told : tie.Need-enum-told
 enum-told c = search needs
 
--- src/lib.rt:114:21
 check-requires : tie.Need-check-requires
 check-requires c κs = search needs
 
--- src/lib.rt:113:9
 returns : tie.Need-returns
-returns c = ?
+returns c = 
+    let a = c .before .before .before .before .before .args in
+    let e = refused-answer (reading (a .sheet .now)) (sym (c .before .before .before .read .ensures) ∙ c .before .enum-told .given .1) in
+    ap noStart (c .check .ensures ∙ ap checkOf (c .before .enum-told .given .1)) ∙ ap startOf (sym e)
 
--- src/lib.rt:119:9
 behind-transitions-requires : tie.Need-behind-transitions-requires
-behind-transitions-requires c κs = ?
+behind-transitions-requires c κs = 
+    let a = c .before .before .before .before .before .args in
+    let k = c .before .answer .given .0 .0 in
+    let x = sound-answer (reading (a .sheet .now)) (sym (c .before .before .before .read .ensures) ∙ c .before .answer .given .1) in
+    let h = held (a .sheet .now) (x .0) (x .1) in
+    let b = most (a .sheet .now) (x .0) k h (x .2) in
+    (b .0, b .1)
 
--- src/lib.rt:120:37
 add-tokens-from : tie.Need-add-tokens-from
 add-tokens-from c = search needs
 
--- src/lib.rt:120:9
 tokens-from-requires : tie.Need-tokens-from-requires
-tokens-from-requires c κs = ?
+tokens-from-requires c κs = 
+    let a = c .before .before .before .before .before .before .args in
+    let k = c .before .before .answer .given .0 .0 in
+    let x = sound-answer (reading (a .sheet .now)) (sym (c .before .before .before .before .read .ensures) ∙ c .before .before .answer .given .1) in
+    let h = held (a .sheet .now) (x .0) (x .1) in
+    (most (a .sheet .now) (x .0) k h (x .2) .0, start-fits (a .sheet .now) (x .0) k h (x .2) (c .behind-transitions .result) (c .behind-transitions .ensures .0))
 
--- src/lib.rt:108:1
 returns-2 : tie.Need-returns-2
-returns-2 c = ?
+returns-2 c = 
+    let a = c .before .before .before .before .before .before .before .args in
+    let k = c .before .before .before .answer .given .0 .0 in
+    let x = sound-answer (reading (a .sheet .now)) (sym (c .before .before .before .before .before .read .ensures) ∙ c .before .before .before .answer .given .1) in
+    let h = held (a .sheet .now) (x .0) (x .1) in
+    ap {B = Start} (λ (m : List ℕ). record { answer = Fine; tokens = m }) (c .tokens-from .ensures ∙ ap (sixteen 0) (start-taken (a .sheet .now) (x .0) k h (x .2) (c .before .behind-transitions .result) (c .before .behind-transitions .ensures .0))) ∙ ap startOf (sym (x .1))
 
 pub start-of-spec : {M : Type 1} → statement M
 start-of-spec =

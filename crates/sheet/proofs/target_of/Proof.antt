@@ -1,61 +1,83 @@
+-- `target_of` meets its contract: the sheet's refusal is passed on, and a sound sheet's kind and target stand behind its start.
+use mathlib.Core.Path.{_≡_, refl, _∙_, sym, ap, ap₂}
+use native.Mathlib.Omega.{arith}
+use mathlib.Core.List.{List}
+use Prim.Native.Nat.{ℕ, _+_, _*_, _≤_}
+use Rattle.format.specs.Reading.{byte, bytes, words, signedWord, transitionIn, targetIn, claimIn, reading}
+use Rattle.format.proofs.Places.{held}
+use Rattle.nets.specs.HalfSpaces.{sixteen}
+use Rattle.nets.specs.Verdicts as verdicts
+use Rattle.reader.specs.Answers.{checkOf}
+use Rattle.reader.specs.declared.Check.the-variants.{Fine}
+use Rattle.sheet.specs.Held.{kindIs, noTarget, targetOf}
+use Rattle.sheet.specs.declared.Target.{Target}
+use Rattle.sheet.specs.declared.Kind.{Kind}
+use Rattle.sheet.proofs.Taken.{sound-answer, refused-answer, most, target-fits, target-taken}
 use borrow.Author.Needs.{needs}
 use Rattle.sheet.proofs.target_of.Statement.{statement}
 use Rattle.sheet.proofs.target_of.Tie as tie
-use Rattle.sheet.proofs.target_of.Reads as reads
-use Rattle.sheet.proofs.target_of.Lts as lts
-use Rattle.reader.proofs.Reading.check.Reads as check-reads
-use Rattle.reader.proofs.layout.target_from.Reads as target-from-reads
-use Rattle.reader.proofs.read.Reads as read-reads
-use Rattle.sheet.proofs.Kind.of_byte.Reads as of-byte-reads
-use Rattle.sheet.proofs.rows.tokens_from.Reads as tokens-from-reads
 
--- src/lib.rt:130:9
 read-requires : tie.Need-read-requires
 read-requires c κs = search needs
 
--- src/lib.rt:131:24
 enum-known-answer : tie.Need-enum-known-answer
 enum-known-answer c = search needs
 
--- src/lib.rt:133:21
 enum-told : tie.Need-enum-told
 enum-told c = search needs
 
--- src/lib.rt:133:21
 check-requires : tie.Need-check-requires
 check-requires c κs = search needs
 
--- src/lib.rt:132:9
 returns : tie.Need-returns
-returns c = ?
+returns c = 
+    let a = c .before .before .before .before .before .args in
+    let e = refused-answer (reading (a .sheet .now)) (sym (c .before .before .before .read .ensures) ∙ c .before .enum-told .given .1) in
+    ap noTarget (c .check .ensures ∙ ap checkOf (c .before .enum-told .given .1)) ∙ ap targetOf (sym e)
 
--- src/lib.rt:139:9
 target-from-requires : tie.Need-target-from-requires
-target-from-requires c κs = ?
+target-from-requires c κs = 
+    let a = c .before .before .before .before .before .args in
+    let k = c .before .answer .given .0 .0 in
+    let x = sound-answer (reading (a .sheet .now)) (sym (c .before .before .before .read .ensures) ∙ c .before .answer .given .1) in
+    let h = held (a .sheet .now) (x .0) (x .1) in
+    let b = most (a .sheet .now) (x .0) k h (x .2) in
+    (b .0, b .1)
 
--- src/lib.rt:140:36
 add-of-byte : tie.Need-add-of-byte
 add-of-byte c = search needs
 
--- src/lib.rt:140:30
 shared-slice-read-of-byte : tie.Need-shared-slice-read-of-byte
-shared-slice-read-of-byte c = ?
+shared-slice-read-of-byte c = 
+    let a = c .before .before .before .before .before .before .before .args in
+    let k = c .before .before .before .answer .given .0 .0 in
+    let x = sound-answer (reading (a .sheet .now)) (sym (c .before .before .before .before .before .read .ensures) ∙ c .before .before .before .answer .given .1) in
+    let h = held (a .sheet .now) (x .0) (x .1) in
+    omega (arith, target-fits (a .sheet .now) (x .0) k h (x .2) (c .before .target-from .result) (c .before .target-from .ensures .0))
 
--- src/lib.rt:140:9
 of-byte-requires : tie.Need-of-byte-requires
 of-byte-requires c κs = search needs
 
--- src/lib.rt:141:37
 add-tokens-from : tie.Need-add-tokens-from
 add-tokens-from c = search needs
 
--- src/lib.rt:141:9
 tokens-from-requires : tie.Need-tokens-from-requires
-tokens-from-requires c κs = ?
+tokens-from-requires c κs = 
+    let a = c .before .before .before .before .before .before .before .before .args in
+    let k = c .before .before .before .before .answer .given .0 .0 in
+    let x = sound-answer (reading (a .sheet .now)) (sym (c .before .before .before .before .before .before .read .ensures) ∙ c .before .before .before .before .answer .given .1) in
+    let h = held (a .sheet .now) (x .0) (x .1) in
+    (most (a .sheet .now) (x .0) k h (x .2) .0, target-fits (a .sheet .now) (x .0) k h (x .2) (c .before .before .target-from .result) (c .before .before .target-from .ensures .0))
 
--- src/lib.rt:127:1
 returns-2 : tie.Need-returns-2
-returns-2 c = ?
+returns-2 c = 
+    let a = c .before .before .before .before .before .before .before .before .before .args in
+    let k = c .before .before .before .before .before .answer .given .0 .0 in
+    let x = sound-answer (reading (a .sheet .now)) (sym (c .before .before .before .before .before .before .before .read .ensures) ∙ c .before .before .before .before .before .answer .given .1) in
+    let h = held (a .sheet .now) (x .0) (x .1) in
+    ap₂ {C = Target} (λ (q : Kind) (m : List ℕ). record { answer = Fine; kind = q; tokens = m }) (c .before .of-byte .ensures) (c .tokens-from .ensures)
+    ∙ ap {B = Target} (λ (g : verdicts.Target). record { answer = Fine; kind = kindIs (g .kind); tokens = sixteen 0 (g .tokens) }) (target-taken (a .sheet .now) (x .0) k h (x .2) (c .before .before .before .target-from .result) (c .before .before .before .target-from .ensures .0))
+    ∙ ap targetOf (sym (x .1))
 
 pub target-of-spec : {M : Type 1} → statement M
 target-of-spec =

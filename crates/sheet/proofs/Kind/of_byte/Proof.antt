@@ -1,15 +1,13 @@
+-- `Kind::of_byte` meets its contract: the test is the definition's.
+use borrow.Author.Tests.{eq-eqb, ne-eqb}
 use Rattle.sheet.proofs.Kind.of_byte.Statement.{statement}
 use Rattle.sheet.proofs.Kind.of_byte.Tie as tie
-use Rattle.sheet.proofs.Kind.of_byte.Reads as reads
-use Rattle.sheet.proofs.Kind.of_byte.Lts as lts
 
--- src/lib.rt:42:5
 returns : tie.Need-returns
-returns c = ?
+returns c = rw (eq-eqb (c .before .args .b) 0 (c .if1 .taken))
 
--- src/lib.rt:42:5
 returns-2 : tie.Need-returns-2
-returns-2 c = ?
+returns-2 c = rw (ne-eqb (c .before .args .b) 0 (c .if1 .left))
 
 pub of-byte-spec : {M : Type 1} → statement M
 of-byte-spec = tie.close (tie.spec returns returns-2)
