@@ -1,13 +1,13 @@
 -- What the reader's answer tells: a sound one comes of sound contents with these counts, and a refusal is the sheet's.
 use mathlib.Core.Path.{_≡_, refl, sym, ap, _∙_}
 use mathlib.Core.List.{List}
-use Prim.Native.Nat.{ℕ, suc, _+_, _*_, _≤_, _<_}
+use Prim.Native.Nat.{ℕ, suc, _+_, _-_, _*_, _≤_, _<_}
 use native.Mathlib.Nat.{mul-le-mul-right}
 use native.Mathlib.Numerals.{add-one}
 use native.Mathlib.Omega.{arith}
 use mathlib.Core.Bool.{true}
 use lib.Dec.{leb}
-use lib.ListN.{length}
+use lib.ListN.{length, take, drop}
 use borrow.Author.Tests.{leb-true}
 use Rattle.terms.specs.Limits.{among}
 use Rattle.format.proofs.Sound.{cond-true}
@@ -16,7 +16,9 @@ use Rattle.format.specs.Read.{Read, sound, refused}
 use Rattle.nets.specs.Nets.{transition, none}
 use Rattle.format.specs.Contents.{Contents, claim, no-claim}
 use Rattle.format.specs.Reading.{sizeOf, words, transitionIn, targetIn, claimIn, transitionSize, claimSize, transitionsFrom, targetFrom, claimsFrom}
+use Rattle.format.specs.Encoding.{claimBytes, recordFrom}
 use Rattle.format.proofs.Places.{sizeIn, Held}
+use Rattle.format.proofs.ClaimRecord.{RecordStands}
 use Rattle.reader.specs.Answers.{countsOf, answerOf}
 use Rattle.reader.specs.declared.Counts.{Counts}
 use Rattle.reader.specs.declared.Reading.the-variants.{Sound, Malformed}
@@ -91,3 +93,12 @@ module _ (s : List ℕ) (x : Contents) (k : Counts) (h : Held s x) (e : countsOf
     pub claim-taken : claimIn s (k .places) at ≡ claim x (i + 1)
     unfolding claim
     claim-taken = rw (is, n-is, t-is, add-one i) (sym (h .each-claim no-claim i (omega (arith, c-is))))
+
+  module _ (at i : ℕ) (stands : RecordStands s x i) (is : at ≡ claimsFrom (sizeOf (k .places) (k .transitions)) + i * claimSize (k .places)) where
+    pub record-from : at ≡ recordFrom x (i + 1)
+    record-from = is ∙ rw (n-is, t-is) (sym (stands .from))
+
+    pub record-bytes : take (at + 4 + k .places - at) (drop at s) ≡ claimBytes (claim x (i + 1))
+    record-bytes =
+        let size : at + 4 + k .places - at ≡ claimSize (k .places) = omega arith in
+        rw (size, is, n-is, t-is) (stands .bytes)

@@ -2,6 +2,7 @@
 ghost use mathlib.Core.Path.{_≡_};
 ghost use Rattle.format.specs.Reading.{reading, kindOf};
 ghost use Rattle.sheet.specs.Held.{kindIs, claimCheck, weightsOf, startOf, targetOf, halfSpaceOf, noWeights, noHalfSpace};
+ghost use Rattle.sheet.specs.Part.{IsPart, recordAt, recordBytes};
 
 mod rows; // rows.rt: sixteen numbers of one kind
 
@@ -182,4 +183,22 @@ pub fn claim_check(sheet: &[u8], i: Claim) -> Check
         return Check::Refused(Refusal::no_claim(i));
     }
     Check::Fine
+}
+
+// The record of a claim, its mark included, as a part of the caller's own sheet; of length 0 at its start where `claim_check` refuses.
+pub fn claim_record(sheet: &[u8], i: Claim) -> &[u8]
+    ensures { λ r. ⌜ IsPart r (sheet .entry) (recordAt (reading (now (sheet .entry))) i) (recordBytes (reading (now (sheet .entry))) i) ⌝ }
+{
+    let answer = read(sheet);
+    let Reading::Sound(counts) = answer else {
+        return &sheet[..0];
+    };
+    let there = among(i.0, counts.claims);
+    if !there {
+        return &sheet[..0];
+    }
+    let n = counts.places;
+    let at = behind_claims(n, counts.transitions, i.0 - 1);
+    let end = at + 4 + n;
+    &sheet[at..end]
 }

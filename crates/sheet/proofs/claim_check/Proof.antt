@@ -30,7 +30,7 @@ check-requires : tie.Need-check-requires
 check-requires c κs = search needs
 
 returns : tie.Need-returns
-returns c = 
+returns c =
     let a = c .before .before .before .before .before .args in
     let e = refused-answer (reading (a .sheet .now)) (sym (c .before .before .before .read .ensures) ∙ c .before .enum-told .given .1) in
     c .check .ensures ∙ ap checkOf (c .before .enum-told .given .1) ∙ ap (λ y. claimCheck y (a .i)) (sym e)
@@ -42,23 +42,23 @@ no-claim-requires : tie.Need-no-claim-requires
 no-claim-requires c κs = search needs
 
 returns-2 : tie.Need-returns-2
-returns-2 c = 
+returns-2 c =
     let a = c .before .before .before .before .before .before .before .before .args in
     let k = c .before .before .before .before .answer .given .0 .0 in
     let x = sound-answer (reading (a .sheet .now)) (sym (c .before .before .before .before .before .before .read .ensures) ∙ c .before .before .before .before .answer .given .1) in
     let h = held (a .sheet .now) (x .0) (x .1) in
     let no : among (a .i .0) (length (x .0 .claims)) ≡ false =
-        ap (among (a .i .0)) (sym (c-is (a .sheet .now) (x .0) k h (x .2))) ∙ sym (c .before .before .among .ensures) ∙ not-true (c .before .before .among .result) (c .before .if1 .taken) in
+    ap (among (a .i .0)) (sym (c-is (a .sheet .now) (x .0) k h (x .2))) ∙ sym (c .before .before .among .ensures) ∙ not-true (c .before .before .among .result) (c .before .if1 .taken) in
     ap Refused (c .no-claim .ensures) ∙ sym (ap (λ y. claimCheck y (a .i)) (x .1) ∙ ap (λ t. choose t Fine (Refused (notAClaim (a .i)))) no)
 
 returns-3 : tie.Need-returns-3
-returns-3 c = 
+returns-3 c =
     let a = c .before .before .before .before .before .before .before .args in
     let k = c .before .before .before .answer .given .0 .0 in
     let x = sound-answer (reading (a .sheet .now)) (sym (c .before .before .before .before .before .read .ensures) ∙ c .before .before .before .answer .given .1) in
     let h = held (a .sheet .now) (x .0) (x .1) in
     let yes : among (a .i .0) (length (x .0 .claims)) ≡ true =
-        ap (among (a .i .0)) (sym (c-is (a .sheet .now) (x .0) k h (x .2))) ∙ sym (c .before .among .ensures) ∙ not-false (c .before .among .result) (c .if1 .left) in
+    ap (among (a .i .0)) (sym (c-is (a .sheet .now) (x .0) k h (x .2))) ∙ sym (c .before .among .ensures) ∙ not-false (c .before .among .result) (c .if1 .left) in
     sym (ap (λ y. claimCheck y (a .i)) (x .1) ∙ ap (λ t. choose t Fine (Refused (notAClaim (a .i)))) yes)
 
 pub claim-check-spec : {M : Type 1} → statement M

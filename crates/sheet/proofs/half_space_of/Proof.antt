@@ -43,7 +43,7 @@ refused-requires : tie.Need-refused-requires
 refused-requires c κs = search needs
 
 returns : tie.Need-returns
-returns c = 
+returns c =
     let a = c .before .before .before .before .before .before .args in
     let e = refused-answer (reading (a .sheet .now)) (sym (c .before .before .before .before .read .ensures) ∙ c .before .before .enum-told .given .1) in
     c .refused .ensures ∙ ap noHalfSpace (c .before .check .ensures ∙ ap checkOf (c .before .before .enum-told .given .1)) ∙ ap (λ y. halfSpaceOf y (a .i)) (sym e)
@@ -58,17 +58,17 @@ refused-requires-2 : tie.Need-refused-requires-2
 refused-requires-2 c κs = search needs
 
 returns-2 : tie.Need-returns-2
-returns-2 c = 
+returns-2 c =
     let a = c .before .before .before .before .before .before .before .before .before .args in
     let k = c .before .before .before .before .before .answer .given .0 .0 in
     let x = sound-answer (reading (a .sheet .now)) (sym (c .before .before .before .before .before .before .before .read .ensures) ∙ c .before .before .before .before .before .answer .given .1) in
     let h = held (a .sheet .now) (x .0) (x .1) in
     let no : among (a .i .0) (length (x .0 .claims)) ≡ false =
-        ap (among (a .i .0)) (sym (c-is (a .sheet .now) (x .0) k h (x .2))) ∙ sym (c .before .before .before .among .ensures) ∙ not-true (c .before .before .before .among .result) (c .before .before .if1 .taken) in
+    ap (among (a .i .0)) (sym (c-is (a .sheet .now) (x .0) k h (x .2))) ∙ sym (c .before .before .before .among .ensures) ∙ not-true (c .before .before .before .among .result) (c .before .before .if1 .taken) in
     c .refused2 .ensures ∙ ap (λ r. noHalfSpace (Refused r)) (c .before .no-claim .ensures) ∙ sym (ap (λ y. halfSpaceOf y (a .i)) (x .1) ∙ ap (λ t. choose t (halfSpaceIn (x .0) (a .i .0)) (noHalfSpace (Refused (notAClaim (a .i))))) no)
 
 sub-behind-claims : tie.Need-sub-behind-claims
-sub-behind-claims c = 
+sub-behind-claims c =
     let a = c .before .before .before .before .before .before .before .before .args in
     let k = c .before .before .before .before .answer .given .0 .0 in
     let x = sound-answer (reading (a .sheet .now)) (sym (c .before .before .before .before .before .before .read .ensures) ∙ c .before .before .before .before .answer .given .1) in
@@ -78,7 +78,7 @@ sub-behind-claims c =
     omega (arith, i .0)
 
 behind-claims-requires : tie.Need-behind-claims-requires
-behind-claims-requires c κs = 
+behind-claims-requires c κs =
     let a = c .before .before .before .before .before .before .before .before .args in
     let k = c .before .before .before .before .answer .given .0 .0 in
     let x = sound-answer (reading (a .sheet .now)) (sym (c .before .before .before .before .before .before .read .ensures) ∙ c .before .before .before .before .answer .given .1) in
@@ -92,7 +92,7 @@ add-coefficients-from : tie.Need-add-coefficients-from
 add-coefficients-from c = search needs
 
 coefficients-from-requires : tie.Need-coefficients-from-requires
-coefficients-from-requires c κs = 
+coefficients-from-requires c κs =
     let a = c .before .before .before .before .before .before .before .before .before .args in
     let k = c .before .before .before .before .before .answer .given .0 .0 in
     let x = sound-answer (reading (a .sheet .now)) (sym (c .before .before .before .before .before .before .before .read .ensures) ∙ c .before .before .before .before .before .answer .given .1) in
@@ -108,7 +108,7 @@ add-of-bytes-2 : tie.Need-add-of-bytes-2
 add-of-bytes-2 c = search needs
 
 shared-slice-read-of-bytes : tie.Need-shared-slice-read-of-bytes
-shared-slice-read-of-bytes c = 
+shared-slice-read-of-bytes c =
     let a = c .before .before .before .before .before .before .before .before .before .before .before .args in
     let k = c .before .before .before .before .before .before .before .answer .given .0 .0 in
     let x = sound-answer (reading (a .sheet .now)) (sym (c .before .before .before .before .before .before .before .before .before .read .ensures) ∙ c .before .before .before .before .before .before .before .answer .given .1) in
@@ -124,7 +124,7 @@ add-of-bytes-4 : tie.Need-add-of-bytes-4
 add-of-bytes-4 c = search needs
 
 shared-slice-read-of-bytes-2 : tie.Need-shared-slice-read-of-bytes-2
-shared-slice-read-of-bytes-2 c = 
+shared-slice-read-of-bytes-2 c =
     let a = c .before .before .before .before .before .before .before .before .before .before .before .before .args in
     let k = c .before .before .before .before .before .before .before .before .answer .given .0 .0 in
     let x = sound-answer (reading (a .sheet .now)) (sym (c .before .before .before .before .before .before .before .before .before .before .read .ensures) ∙ c .before .before .before .before .before .before .before .before .answer .given .1) in
@@ -137,13 +137,13 @@ of-bytes-requires : tie.Need-of-bytes-requires
 of-bytes-requires c κs = search needs
 
 returns-3 : tie.Need-returns-3
-returns-3 c = 
+returns-3 c =
     let a = c .before .before .before .before .before .before .before .before .before .before .before .before .before .before .args in
     let k = c .before .before .before .before .before .before .before .before .before .before .answer .given .0 .0 in
     let x = sound-answer (reading (a .sheet .now)) (sym (c .before .before .before .before .before .before .before .before .before .before .before .before .read .ensures) ∙ c .before .before .before .before .before .before .before .before .before .before .answer .given .1) in
     let h = held (a .sheet .now) (x .0) (x .1) in
     let yes : among (a .i .0) (length (x .0 .claims)) ≡ true =
-        ap (among (a .i .0)) (sym (c-is (a .sheet .now) (x .0) k h (x .2))) ∙ sym (c .before .before .before .before .before .before .before .before .among .ensures) ∙ not-false (c .before .before .before .before .before .before .before .before .among .result) (c .before .before .before .before .before .before .before .if1 .left) in
+    ap (among (a .i .0)) (sym (c-is (a .sheet .now) (x .0) k h (x .2))) ∙ sym (c .before .before .before .before .before .before .before .before .among .ensures) ∙ not-false (c .before .before .before .before .before .before .before .before .among .result) (c .before .before .before .before .before .before .before .if1 .left) in
     let these : among (a .i .0) (k .claims) ≡ true = sym (c .before .before .before .before .before .before .before .before .among .ensures) ∙ not-false (c .before .before .before .before .before .before .before .before .among .result) (c .before .before .before .before .before .before .before .if1 .left) in
     let i = among-some (a .i .0) (k .claims) these in
     let same : a .i .0 - 1 + 1 ≡ a .i .0 = omega (arith, i .0) in

@@ -28,13 +28,13 @@ check-requires : tie.Need-check-requires
 check-requires c κs = search needs
 
 returns : tie.Need-returns
-returns c = 
+returns c =
     let a = c .before .before .before .before .before .args in
     let e = refused-answer (reading (a .sheet .now)) (sym (c .before .before .before .read .ensures) ∙ c .before .enum-told .given .1) in
     ap noStart (c .check .ensures ∙ ap checkOf (c .before .enum-told .given .1)) ∙ ap startOf (sym e)
 
 behind-transitions-requires : tie.Need-behind-transitions-requires
-behind-transitions-requires c κs = 
+behind-transitions-requires c κs =
     let a = c .before .before .before .before .before .args in
     let k = c .before .answer .given .0 .0 in
     let x = sound-answer (reading (a .sheet .now)) (sym (c .before .before .before .read .ensures) ∙ c .before .answer .given .1) in
@@ -46,7 +46,7 @@ add-tokens-from : tie.Need-add-tokens-from
 add-tokens-from c = search needs
 
 tokens-from-requires : tie.Need-tokens-from-requires
-tokens-from-requires c κs = 
+tokens-from-requires c κs =
     let a = c .before .before .before .before .before .before .args in
     let k = c .before .before .answer .given .0 .0 in
     let x = sound-answer (reading (a .sheet .now)) (sym (c .before .before .before .before .read .ensures) ∙ c .before .before .answer .given .1) in
@@ -54,7 +54,7 @@ tokens-from-requires c κs =
     (most (a .sheet .now) (x .0) k h (x .2) .0, start-fits (a .sheet .now) (x .0) k h (x .2) (c .behind-transitions .result) (c .behind-transitions .ensures .0))
 
 returns-2 : tie.Need-returns-2
-returns-2 c = 
+returns-2 c =
     let a = c .before .before .before .before .before .before .before .args in
     let k = c .before .before .before .answer .given .0 .0 in
     let x = sound-answer (reading (a .sheet .now)) (sym (c .before .before .before .before .before .read .ensures) ∙ c .before .before .before .answer .given .1) in

@@ -30,13 +30,13 @@ check-requires : tie.Need-check-requires
 check-requires c κs = search needs
 
 returns : tie.Need-returns
-returns c = 
+returns c =
     let a = c .before .before .before .before .before .args in
     let e = refused-answer (reading (a .sheet .now)) (sym (c .before .before .before .read .ensures) ∙ c .before .enum-told .given .1) in
     ap noTarget (c .check .ensures ∙ ap checkOf (c .before .enum-told .given .1)) ∙ ap targetOf (sym e)
 
 target-from-requires : tie.Need-target-from-requires
-target-from-requires c κs = 
+target-from-requires c κs =
     let a = c .before .before .before .before .before .args in
     let k = c .before .answer .given .0 .0 in
     let x = sound-answer (reading (a .sheet .now)) (sym (c .before .before .before .read .ensures) ∙ c .before .answer .given .1) in
@@ -48,7 +48,7 @@ add-of-byte : tie.Need-add-of-byte
 add-of-byte c = search needs
 
 shared-slice-read-of-byte : tie.Need-shared-slice-read-of-byte
-shared-slice-read-of-byte c = 
+shared-slice-read-of-byte c =
     let a = c .before .before .before .before .before .before .before .args in
     let k = c .before .before .before .answer .given .0 .0 in
     let x = sound-answer (reading (a .sheet .now)) (sym (c .before .before .before .before .before .read .ensures) ∙ c .before .before .before .answer .given .1) in
@@ -62,7 +62,7 @@ add-tokens-from : tie.Need-add-tokens-from
 add-tokens-from c = search needs
 
 tokens-from-requires : tie.Need-tokens-from-requires
-tokens-from-requires c κs = 
+tokens-from-requires c κs =
     let a = c .before .before .before .before .before .before .before .before .args in
     let k = c .before .before .before .before .answer .given .0 .0 in
     let x = sound-answer (reading (a .sheet .now)) (sym (c .before .before .before .before .before .before .read .ensures) ∙ c .before .before .before .before .answer .given .1) in
@@ -70,7 +70,7 @@ tokens-from-requires c κs =
     (most (a .sheet .now) (x .0) k h (x .2) .0, target-fits (a .sheet .now) (x .0) k h (x .2) (c .before .before .target-from .result) (c .before .before .target-from .ensures .0))
 
 returns-2 : tie.Need-returns-2
-returns-2 c = 
+returns-2 c =
     let a = c .before .before .before .before .before .before .before .before .before .args in
     let k = c .before .before .before .before .before .answer .given .0 .0 in
     let x = sound-answer (reading (a .sheet .now)) (sym (c .before .before .before .before .before .before .before .read .ensures) ∙ c .before .before .before .before .before .answer .given .1) in

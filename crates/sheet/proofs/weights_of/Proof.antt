@@ -38,7 +38,7 @@ refused-requires : tie.Need-refused-requires
 refused-requires c κs = search needs
 
 returns : tie.Need-returns
-returns c = 
+returns c =
     let a = c .before .before .before .before .before .before .args in
     let e = refused-answer (reading (a .sheet .now)) (sym (c .before .before .before .before .read .ensures) ∙ c .before .before .enum-told .given .1) in
     c .refused .ensures ∙ ap noWeights (c .before .check .ensures ∙ ap checkOf (c .before .before .enum-told .given .1)) ∙ ap (λ y. weightsOf y (a .t)) (sym e)
@@ -53,17 +53,17 @@ refused-requires-2 : tie.Need-refused-requires-2
 refused-requires-2 c κs = search needs
 
 returns-2 : tie.Need-returns-2
-returns-2 c = 
+returns-2 c =
     let a = c .before .before .before .before .before .before .before .before .before .args in
     let k = c .before .before .before .before .before .answer .given .0 .0 in
     let x = sound-answer (reading (a .sheet .now)) (sym (c .before .before .before .before .before .before .before .read .ensures) ∙ c .before .before .before .before .before .answer .given .1) in
     let h = held (a .sheet .now) (x .0) (x .1) in
     let no : among (a .t .0) (length (x .0 .setting .net .transitions)) ≡ false =
-        ap (among (a .t .0)) (sym (tc-is (a .sheet .now) (x .0) k h (x .2))) ∙ sym (c .before .before .before .among .ensures) ∙ not-true (c .before .before .before .among .result) (c .before .before .if1 .taken) in
+    ap (among (a .t .0)) (sym (tc-is (a .sheet .now) (x .0) k h (x .2))) ∙ sym (c .before .before .before .among .ensures) ∙ not-true (c .before .before .before .among .result) (c .before .before .if1 .taken) in
     c .refused2 .ensures ∙ ap (λ r. noWeights (Refused r)) (c .before .no-transition .ensures) ∙ sym (ap (λ y. weightsOf y (a .t)) (x .1) ∙ ap (λ t. choose t (weightsIn (x .0) (a .t .0)) (noWeights (Refused (notATransition (a .t))))) no)
 
 sub-behind-transitions : tie.Need-sub-behind-transitions
-sub-behind-transitions c = 
+sub-behind-transitions c =
     let a = c .before .before .before .before .before .before .before .before .args in
     let k = c .before .before .before .before .answer .given .0 .0 in
     let x = sound-answer (reading (a .sheet .now)) (sym (c .before .before .before .before .before .before .read .ensures) ∙ c .before .before .before .before .answer .given .1) in
@@ -73,7 +73,7 @@ sub-behind-transitions c =
     omega (arith, i .0)
 
 behind-transitions-requires : tie.Need-behind-transitions-requires
-behind-transitions-requires c κs = 
+behind-transitions-requires c κs =
     let a = c .before .before .before .before .before .before .before .before .args in
     let k = c .before .before .before .before .answer .given .0 .0 in
     let x = sound-answer (reading (a .sheet .now)) (sym (c .before .before .before .before .before .before .read .ensures) ∙ c .before .before .before .before .answer .given .1) in
@@ -87,7 +87,7 @@ add-weights-from : tie.Need-add-weights-from
 add-weights-from c = search needs
 
 weights-from-requires : tie.Need-weights-from-requires
-weights-from-requires c κs = 
+weights-from-requires c κs =
     let a = c .before .before .before .before .before .before .before .before .before .args in
     let k = c .before .before .before .before .before .answer .given .0 .0 in
     let x = sound-answer (reading (a .sheet .now)) (sym (c .before .before .before .before .before .before .before .read .ensures) ∙ c .before .before .before .before .before .answer .given .1) in
@@ -100,7 +100,7 @@ add-weights-from-2 : tie.Need-add-weights-from-2
 add-weights-from-2 c = search needs
 
 add-weights-from-3 : tie.Need-add-weights-from-3
-add-weights-from-3 c = 
+add-weights-from-3 c =
     let a = c .before .before .before .before .before .before .before .before .before .before .args in
     let k = c .before .before .before .before .before .before .answer .given .0 .0 in
     let x = sound-answer (reading (a .sheet .now)) (sym (c .before .before .before .before .before .before .before .before .read .ensures) ∙ c .before .before .before .before .before .before .answer .given .1) in
@@ -108,7 +108,7 @@ add-weights-from-3 c =
     omega (arith, most (a .sheet .now) (x .0) k h (x .2) .0, c .before .behind-transitions .ensures .1)
 
 weights-from-requires-2 : tie.Need-weights-from-requires-2
-weights-from-requires-2 c κs = 
+weights-from-requires-2 c κs =
     let a = c .before .before .before .before .before .before .before .before .before .before .args in
     let k = c .before .before .before .before .before .before .answer .given .0 .0 in
     let x = sound-answer (reading (a .sheet .now)) (sym (c .before .before .before .before .before .before .before .before .read .ensures) ∙ c .before .before .before .before .before .before .answer .given .1) in
@@ -118,13 +118,13 @@ weights-from-requires-2 c κs =
     (most (a .sheet .now) (x .0) k h (x .2) .0, omega (arith, weights-fit (a .sheet .now) (x .0) k h (x .2) (c .before .behind-transitions .result) (a .t .0 - 1) (omega (arith, i .0, i .1)) (c .before .behind-transitions .ensures .0)))
 
 returns-3 : tie.Need-returns-3
-returns-3 c = 
+returns-3 c =
     let a = c .before .before .before .before .before .before .before .before .before .before .before .args in
     let k = c .before .before .before .before .before .before .before .answer .given .0 .0 in
     let x = sound-answer (reading (a .sheet .now)) (sym (c .before .before .before .before .before .before .before .before .before .read .ensures) ∙ c .before .before .before .before .before .before .before .answer .given .1) in
     let h = held (a .sheet .now) (x .0) (x .1) in
     let yes : among (a .t .0) (length (x .0 .setting .net .transitions)) ≡ true =
-        ap (among (a .t .0)) (sym (tc-is (a .sheet .now) (x .0) k h (x .2))) ∙ sym (c .before .before .before .before .before .among .ensures) ∙ not-false (c .before .before .before .before .before .among .result) (c .before .before .before .before .if1 .left) in
+    ap (among (a .t .0)) (sym (tc-is (a .sheet .now) (x .0) k h (x .2))) ∙ sym (c .before .before .before .before .before .among .ensures) ∙ not-false (c .before .before .before .before .before .among .result) (c .before .before .before .before .if1 .left) in
     let these : among (a .t .0) (k .transitions) ≡ true = sym (c .before .before .before .before .before .among .ensures) ∙ not-false (c .before .before .before .before .before .among .result) (c .before .before .before .before .if1 .left) in
     let i = among-some (a .t .0) (k .transitions) these in
     let same : a .t .0 - 1 + 1 ≡ a .t .0 = omega (arith, i .0) in
