@@ -1,5 +1,6 @@
 // The words of document 01 as types: numbers of places, transitions and claims, the limits of each field, and refusals.
 ghost use mathlib.Core.Path.{_≡_};
+ghost use lib.IntN.{natAbs};
 ghost use Rattle.signed.specs.Twos.{twos8, twos16};
 ghost use Rattle.terms.specs.Limits.{among as isAmong, placesFit, transitionsFit, weightFits, coefficientFits, constantFits};
 ghost use Rattle.terms.specs.Refusals.{detailOf, refusedAt, notAClaim, notATransition};
@@ -108,6 +109,14 @@ impl Constant {
             self.0 <= Constant::MOST
         }
     }
+}
+
+// The size of a signed number.
+pub fn size(x: i16) -> u32
+    ensures { λ r. ⌜ r ≡ natAbs x ⌝ }
+{
+    let w = x as i32;
+    if w < 0 { (0 - w) as u32 } else { w as u32 }
 }
 
 // What a refusal's detail counts.

@@ -1,0 +1,162 @@
+// What each call answers, in words.
+use reader::Check;
+use reader::Reading;
+use sheet::Kind;
+use terms::Claim;
+use terms::Refusal;
+use terms::Transition;
+
+const STDOUT: i32 = 1;
+
+fn say(words: &[u8]) {
+    io::write_all(STDOUT, words);
+}
+
+fn number(n: u64) {
+    say(b" ");
+    io::print_decimal(STDOUT, n);
+}
+
+fn number8(b: u8) {
+    number(b as u64);
+}
+
+fn number16(w: u16) {
+    number(w as u64);
+}
+
+fn signed(z: i16) {
+    if z < 0 {
+        say(b" -");
+        io::print_decimal(STDOUT, terms::size(z) as u64);
+    } else {
+        number(terms::size(z) as u64);
+    }
+}
+
+fn signed8(k: i8) {
+    signed(k as i16);
+}
+
+fn refusal(r: Refusal) {
+    say(b"refused");
+    number(r.number as u64);
+    say(b" at");
+    number(r.value() as u64);
+}
+
+fn check(c: Check) {
+    match c {
+        Check::Fine => say(b"fine"),
+        Check::Refused(r) => refusal(r),
+    }
+}
+
+pub fn show_answer(sheet: &[u8]) {
+    match reader::read(sheet) {
+        Reading::Malformed(r) => refusal(r),
+        Reading::Sound(k) => {
+            say(b"places");
+            number(k.places as u64);
+            say(b" transitions");
+            number(k.transitions as u64);
+            say(b" claims");
+            number(k.claims as u64);
+        }
+    }
+    say(b"\n");
+}
+
+fn bytes(words: &[u8], row: [u8; 16]) {
+    say(words);
+    for p in 0..16 {
+        number8(row[p]);
+    }
+}
+
+fn tokens(row: [u16; 16]) {
+    for p in 0..16 {
+        number16(row[p]);
+    }
+}
+
+fn coefficients(row: [i8; 16]) {
+    for p in 0..16 {
+        signed8(row[p]);
+    }
+}
+
+fn record(part: &[u8]) {
+    say(b" record");
+    for k in 0..part.len() {
+        number8(part[k]);
+    }
+}
+
+fn show_transition(sheet: &[u8], t: usize) {
+    let w = sheet::weights_of(sheet, Transition(t));
+    say(b"transition");
+    number(t as u64);
+    say(b" ");
+    let answer = w.answer;
+    check(answer);
+    let taken = w.taken;
+    bytes(b" taken", taken);
+    let put = w.put;
+    bytes(b" put", put);
+    say(b"\n");
+}
+
+fn show_claim(sheet: &[u8], i: usize) {
+    let h = sheet::half_space_of(sheet, Claim(i));
+    say(b"claim");
+    number(i as u64);
+    say(b" ");
+    let answer = h.answer;
+    check(answer);
+    let row = h.coefficients;
+    coefficients(row);
+    say(b" constant");
+    signed(h.constant);
+    record(sheet::claim_record(sheet, Claim(i)));
+    say(b" ");
+    check(sheet::claim_check(sheet, Claim(i)));
+    say(b"\n");
+}
+
+fn show_start(sheet: &[u8]) {
+    let m = sheet::start_of(sheet);
+    say(b"start ");
+    let answer = m.answer;
+    check(answer);
+    let row = m.tokens;
+    tokens(row);
+    say(b"\n");
+}
+
+fn show_target(sheet: &[u8]) {
+    let g = sheet::target_of(sheet);
+    say(b"target ");
+    let answer = g.answer;
+    check(answer);
+    let kind = g.kind;
+    match kind {
+        Kind::Exact => say(b" exact"),
+        Kind::AtOrAbove => say(b" at or above"),
+    }
+    let row = g.tokens;
+    tokens(row);
+    say(b"\n");
+}
+
+// Every transition and every claim, with numbers from 0 to one too many.
+pub fn show_all(sheet: &[u8]) {
+    for t in 0..66 {
+        show_transition(sheet, t);
+    }
+    show_start(sheet);
+    show_target(sheet);
+    for i in 0..34 {
+        show_claim(sheet, i);
+    }
+}
