@@ -6,7 +6,7 @@ use Prim.Native.Nat.{ℕ, zero, suc, _+_, _≤_, _<_}
 use native.Mathlib.Nat.{add-zero}
 use native.Mathlib.Numerals.{add-one}
 use native.Mathlib.Omega.{arith}
-use lib.ListN.{length, drop, length-append, drop-of-length-le}
+use lib.ListN.{length, getD, drop, length-append, drop-of-length-le}
 use lib.Seq.{drop-cons, append-snoc, getD-append-seam}
 use Rattle.format.specs.Reading.{byte, bytes}
 
@@ -80,3 +80,10 @@ stands-whole s b h k =
 
 pub whole-stands : (s b : List ℕ) → s ≡ b → Stands s 0 b
 whole-stands s b e = rw e (stands-seam [] b)
+
+-- a byte of a row is the sheet's byte there
+pub byte-in : (s : List ℕ) (at n i : ℕ) → i < n → getD (bytes s at n) i 0 ≡ byte s (at + i)
+unfolding bytes
+byte-in s at zero i l = absurd (omega arith)
+byte-in s at (suc n) zero l = ap (byte s) (omega arith)
+byte-in s at (suc n) (suc i) l = byte-in s (at + 1) n i (omega arith) ∙ ap (byte s) (omega arith)

@@ -10,7 +10,7 @@ use lib.IntN.{ℤ, pos}
 use Rattle.signed.specs.Twos.{twos8}
 use Rattle.nets.specs.HalfSpaces.{sixteen}
 use Rattle.format.specs.Reading.{byte, word, bytes, words}
-use Rattle.format.proofs.Standing.{length-bytes}
+use Rattle.format.proofs.Standing.{length-bytes, byte-in}
 
 abbrev pub filled : {A : Type 0} → A → List A → ℕ → List A
 filled z xs i = take i xs ++ replicate (16 - i) z
@@ -27,12 +27,6 @@ module _ {A : Type 0} (z : A) (xs : List A) (i : ℕ) where
   filled-all l m =
       let h : i ≡ length xs = omega arith in
       rw (take-all i xs l, h)
-
-pub byte-in : (s : List ℕ) (at n i : ℕ) → i < n → getD (bytes s at n) i 0 ≡ byte s (at + i)
-unfolding bytes
-byte-in s at zero i l = absurd (omega arith)
-byte-in s at (suc n) zero l = ap (byte s) (omega arith)
-byte-in s at (suc n) (suc i) l = byte-in s (at + 1) n i (omega arith) ∙ ap (byte s) (omega arith)
 
 pub length-words : (s : List ℕ) (at n : ℕ) → length (words s at n) ≡ n
 unfolding words

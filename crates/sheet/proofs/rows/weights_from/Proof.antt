@@ -4,8 +4,8 @@ use native.Mathlib.Omega.{arith}
 use Prim.Native.Nat.{_+_, _*_, _-_, _≤_}
 use lib.ListN.{length, set}
 use Rattle.format.specs.Reading.{byte, word, bytes, words}
-use Rattle.format.proofs.Standing.{length-bytes}
-use Rattle.sheet.proofs.Filled.{filled, filled-step, filled-all, byte-in}
+use Rattle.format.proofs.Standing.{length-bytes, byte-in}
+use Rattle.sheet.proofs.Filled.{filled, filled-step, filled-all}
 use borrow.Author.Needs.{needs}
 use Rattle.sheet.proofs.rows.weights_from.Statement.{statement}
 use Rattle.sheet.proofs.rows.weights_from.Tie as tie
