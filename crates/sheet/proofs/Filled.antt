@@ -1,6 +1,6 @@
 -- Sixteen numbers filled from the front: after i turns the first i stand there and the rest is zero, so after the last turn it is the whole row.
 use mathlib.Core.Path.{_≡_, refl, sym, ap, _∙_}
-use mathlib.Core.List.{List, [], _∷_, _++_, append-assoc, map}
+use mathlib.Core.List.{List, [], _∷_, _++_, append-assoc, append-nil, map}
 use Prim.Native.Nat.{ℕ, zero, suc, _+_, _-_, _*_, _≤_, _<_}
 use native.Mathlib.Numerals.{add-one}
 use native.Mathlib.Omega.{arith}
@@ -27,6 +27,11 @@ module _ {A : Type 0} (z : A) (xs : List A) (i : ℕ) where
   filled-all l m =
       let h : i ≡ length xs = omega arith in
       rw (take-all i xs l, h)
+
+pub sixteen-full : {A : Type 0} (z : A) (xs : List A) → length xs ≡ 16 → sixteen z xs ≡ xs
+sixteen-full z xs e =
+    let h : 16 - length xs ≡ 0 = omega arith in
+    rw h (append-nil xs)
 
 pub length-words : (s : List ℕ) (at n : ℕ) → length (words s at n) ≡ n
 unfolding words
