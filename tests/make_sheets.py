@@ -2,6 +2,7 @@
 
 from collections.abc import Callable, Sequence
 from dataclasses import replace
+from itertools import product
 from random import Random
 
 from second.sheet import (
@@ -28,6 +29,21 @@ TELLING_BYTES = b"NPTRMKTGHS" + bytes([0, 1, 2, 9, 10, 16, 17, 64, 65, 100, 101,
 def sound_sheets(count: int) -> list[Sheet]:
     chance = Random("sound")
     return [random_sheet(chance) for _ in range(count)]
+
+
+def sheets_of_every_size() -> list[Sheet]:
+    """Each T with every other n, and claims by chance; then the ends of all three ranges with one another."""
+    chance = Random("every size")
+    sizes = [
+        *((n, T, chance.randint(1, MOST_CLAIMS)) for T in range(MOST_TRANSITIONS + 1) for n in every_other_n(T)),
+        *(5 * list(product([1, MOST_PLACES], [0, MOST_TRANSITIONS], [1, MOST_CLAIMS]))),
+    ]
+    return [sheet_of_size(chance, *size) for size in sizes]
+
+
+def every_other_n(T: int) -> range:
+    """The odd ones for an even T and the even ones for an odd T, so that all come in turn."""
+    return range(1 + T % 2, MOST_PLACES + 1, 2)
 
 
 def damaged_sheets(count: int) -> list[bytes]:
@@ -69,6 +85,10 @@ def random_sheet(chance: Random) -> Sheet:
         n = near_ends(chance, 1, MOST_PLACES)
         T = near_ends(chance, 0, MOST_TRANSITIONS)
         claims = near_ends(chance, 1, MOST_CLAIMS)
+    return sheet_of_size(chance, n, T, claims)
+
+
+def sheet_of_size(chance: Random, n: int, T: int, claims: int) -> Sheet:
     return Sheet(
         n=n,
         T=T,
