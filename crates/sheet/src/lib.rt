@@ -4,7 +4,7 @@ ghost use Rattle.format.specs.Reading.{reading, kindOf};
 ghost use Rattle.sheet.specs.Held.{kindIs, claimCheck, weightsOf, startOf, targetOf, halfSpaceOf, noWeights, noHalfSpace};
 ghost use Rattle.sheet.specs.Part.{IsPart, recordAt, recordBytes};
 
-mod rows; // rows.rt: sixteen numbers of one kind
+pub mod rows; // rows.rt: sixteen numbers of one kind
 
 use reader::Check;
 use reader::Reading;

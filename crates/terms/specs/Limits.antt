@@ -32,6 +32,10 @@ kindFits k = leb k 1
 abbrev pub mostClaims : ℕ
 mostClaims = 32
 
+-- the entries of a work area
+abbrev pub areaSize : ℕ
+areaSize = 20000
+
 -- a number counted from 1, of so many
 abbrev pub among : ℕ → ℕ → Bool
 among i count = cond (leb 1 i) (leb i count) false

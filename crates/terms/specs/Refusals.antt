@@ -29,3 +29,7 @@ notAClaim i = record { number = 11; detail = OfClaim i }
 
 abbrev pub notATransition : Transition → Refusal
 notATransition t = record { number = 12; detail = OfTransition t }
+
+-- 13, with 0: a work area is too small
+abbrev pub smallArea : Refusal
+smallArea = record { number = 13; detail = Nothing }

@@ -3,7 +3,7 @@ ghost use mathlib.Core.Path.{_≡_};
 ghost use lib.IntN.{natAbs};
 ghost use Rattle.signed.specs.Twos.{twos8, twos16};
 ghost use Rattle.terms.specs.Limits.{among as isAmong, placesFit, transitionsFit, weightFits, coefficientFits, constantFits};
-ghost use Rattle.terms.specs.Refusals.{detailOf, refusedAt, notAClaim, notATransition};
+ghost use Rattle.terms.specs.Refusals.{detailOf, refusedAt, notAClaim, notATransition, smallArea};
 
 // Places, transitions and claims are counted apart, each from 1: none is ever taken for another.
 pub struct Place(pub usize);
@@ -29,6 +29,13 @@ pub fn among(i: usize, count: usize) -> bool
     ensures { λ r. ⌜ r ≡ isAmong i count ⌝ }
 {
     if i < 1 { false } else { i <= count }
+}
+
+// A work area that judging borrows.
+pub struct Area {}
+
+impl Area {
+    pub const SIZE: usize = 20000;
 }
 
 // A weight taken or put.
@@ -159,6 +166,15 @@ impl Refusal {
         Refusal {
             number: 12,
             detail: Detail::OfTransition(t),
+        }
+    }
+
+    pub fn small_area() -> Refusal
+        ensures { λ r. ⌜ r ≡ smallArea ⌝ }
+    {
+        Refusal {
+            number: 13,
+            detail: Detail::Nothing,
         }
     }
 

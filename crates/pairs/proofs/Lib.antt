@@ -1,0 +1,5 @@
+pub mod Bounds
+pub mod Rows
+pub mod Crossed
+pub mod Asking
+pub mod Order

@@ -1,0 +1,3 @@
+pub mod Range
+pub mod Crosses
+pub mod Pairs

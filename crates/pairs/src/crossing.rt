@@ -1,0 +1,57 @@
+// A half space and a transition, as numbers: does some marking inside lead outside?
+ghost use mathlib.Core.Path.{_≡_};
+ghost use Prim.Native.Nat.{_≤_};
+ghost use lib.ListN.{length, take};
+ghost use Rattle.search.specs.Searched.{Wiped};
+ghost use Rattle.nets.specs.Window.{low-end, high-end};
+ghost use Rattle.format.specs.Reading.{transitionIn};
+ghost use Rattle.pairs.specs.Crosses.{Crosses, Ready, space};
+use super::window::Window;
+use super::window::beside;
+use search::find;
+use sheet::rows::weights_from;
+use values::value_at;
+
+pub struct Crossing {
+    pub hit: bool,
+    pub marking: [u16; 16],
+}
+
+// The window of Theorem 1.
+fn window_at(k: [i8; 16], c: i16, sheet: &[u8], n: usize, at: usize) -> Window
+    requires { ⌜ Ready (take n k) c (now sheet) n at ⌝ }
+    ensures { λ r. ⌜ (r .lo ≡ low-end (space (take n k) c) (transitionIn (now (sheet .entry)) n at)) × (r .hi ≡ high-end (space (take n k) c) (transitionIn (now (sheet .entry)) n at)) ⌝ }
+{
+    let a = value_at(k, sheet, at + 2, n);
+    let b = value_at(k, sheet, at + 2 + n, n);
+    Window::new(c, a, b)
+}
+
+// The coefficients k and the constant c, and the transition whose record starts at a byte of the sheet.
+pub fn crossing_of(
+    k: [i8; 16],
+    c: i16,
+    sheet: &[u8],
+    n: usize,
+    at: usize,
+    marks: &mut [u8],
+    queue: &mut [u16],
+) -> Crossing
+    requires { ⌜ Ready (take n k) c (now sheet) n at ⌝ }
+    requires { ⌜ (20000 ≤ length (now marks)) × (20000 ≤ length (now queue)) ⌝ }
+    ensures { λ r. ⌜ Crosses (space (take n k) c) (transitionIn (now (sheet .entry)) n at) (r .hit) (r .marking) ⌝ }
+    ensures { λ _. ⌜ Wiped 20000 (now (marks .entry)) (now (marks .exit)) × Wiped 20000 (now (queue .entry)) (now (queue .exit)) ⌝ }
+{
+    let w = window_at(k, c, sheet, n, at);
+    let found = find(k, n, w.lo, w.hi, marks, queue);
+    let x = found.x;
+    if !found.hit {
+        return Crossing {
+            hit: false,
+            marking: x,
+        };
+    }
+    let taken = weights_from(sheet, at + 2, n);
+    let marking = beside(taken, x);
+    Crossing { hit: true, marking }
+}

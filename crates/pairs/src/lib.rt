@@ -1,0 +1,130 @@
+// One claim, one transition: kept or broken, exactly. Document 01, "Half spaces and verdicts".
+ghost use mathlib.Core.Path.{_≡_};
+ghost use Prim.Native.Nat.{_≤_};
+ghost use lib.ListN.{length};
+ghost use Rattle.search.specs.Searched.{Wiped};
+ghost use Rattle.nets.specs.Nets.{transition};
+ghost use Rattle.format.specs.Read.{sound};
+ghost use Rattle.format.specs.Contents.{Contents, halfSpace, claim};
+ghost use Rattle.format.specs.Reading.{reading};
+ghost use Rattle.pairs.specs.Crosses.{Crosses};
+ghost use Rattle.pairs.specs.Pairs.{Asked, IsPair, plainPair, passedPair, countedCheck, pairCheck, areaAfter};
+
+pub mod crossing; // crossing.rt: a half space and a transition, as numbers
+mod window; // window.rt: the ends of Theorem 1's window, and the marking beside it
+
+use crossing::Crossing;
+use crossing::crossing_of;
+use reader::Check;
+use reader::Counts;
+use reader::Reading;
+use reader::layout::behind_claims;
+use reader::layout::behind_transitions;
+use reader::read;
+use sheet::rows::coefficients_from;
+use terms::Area;
+use terms::Claim;
+use terms::Constant;
+use terms::Place;
+use terms::Refusal;
+use terms::Transition;
+use terms::among;
+
+pub enum Answer {
+    Kept,
+    Broken,
+    Refused(Refusal),
+}
+
+// The marking is bad where the answer is Broken, and zeros elsewhere.
+pub struct Pair {
+    pub answer: Answer,
+    pub marking: [u16; 16],
+}
+
+impl Pair {
+    fn plain(answer: Answer) -> Pair
+        ensures { λ r. ⌜ r ≡ plainPair answer ⌝ }
+    {
+        Pair {
+            answer,
+            marking: [0u16; Place::MOST],
+        }
+    }
+
+    // A check passed on.
+    fn passed(check: Check) -> Pair
+        ensures { λ r. ⌜ r ≡ passedPair check ⌝ }
+    {
+        match check {
+            Check::Fine => Pair::plain(Answer::Kept),
+            Check::Refused(r) => Pair::plain(Answer::Refused(r)),
+        }
+    }
+}
+
+// The refusals in their order, and the counts of the sheet.
+fn checked(counts: Counts, i: Claim, t: Transition, marks: usize, queue: usize) -> Check
+    ensures { λ r. ⌜ r ≡ countedCheck counts i t marks queue ⌝ }
+{
+    if !among(i.0, counts.claims) {
+        return Check::Refused(Refusal::no_claim(i));
+    }
+    if !among(t.0, counts.transitions) {
+        return Check::Refused(Refusal::no_transition(t));
+    }
+    if marks < Area::SIZE {
+        return Check::Refused(Refusal::small_area());
+    }
+    if queue < Area::SIZE {
+        return Check::Refused(Refusal::small_area());
+    }
+    Check::Fine
+}
+
+// Claim i and transition t of a sound sheet.
+fn ask(
+    sheet: &[u8],
+    counts: Counts,
+    i: usize,
+    t: usize,
+    marks: &mut [u8],
+    queue: &mut [u16],
+) -> Crossing
+    requires { ⌜ Asked (now sheet) counts i t ⌝ }
+    requires { ⌜ (20000 ≤ length (now marks)) × (20000 ≤ length (now queue)) ⌝ }
+    ensures { λ r. ⌜ ((x : Contents) → reading (now (sheet .entry)) ≡ sound x → Crosses (halfSpace (claim x i)) (transition (x .setting .net) t) (r .hit) (r .marking)) ⌝ }
+    ensures { λ _. ⌜ Wiped 20000 (now (marks .entry)) (now (marks .exit)) × Wiped 20000 (now (queue .entry)) (now (queue .exit)) ⌝ }
+{
+    let n = counts.places;
+    let from = behind_claims(n, counts.transitions, i - 1);
+    let k = coefficients_from(sheet, from + 2, n);
+    let c = Constant::of_bytes(sheet[from + 2 + n], sheet[from + 3 + n]);
+    let at = behind_transitions(n, t - 1);
+    crossing_of(k, c.0, sheet, n, at, marks, queue)
+}
+
+// Does transition t keep claim i? Start and target play no part.
+pub fn pair_of(sheet: &[u8], i: Claim, t: Transition, marks: &mut [u8], queue: &mut [u16]) -> Pair
+    ensures { λ r. ⌜ IsPair (reading (now (sheet .entry))) i t (length (now (marks .entry))) (length (now (queue .entry))) r ⌝ }
+    ensures { λ _. ⌜ now (marks .exit) ≡ areaAfter (pairCheck (reading (now (sheet .entry))) i t (length (now (marks .entry))) (length (now (queue .entry)))) (now (marks .entry)) ⌝ }
+    ensures { λ _. ⌜ now (queue .exit) ≡ areaAfter (pairCheck (reading (now (sheet .entry))) i t (length (now (marks .entry))) (length (now (queue .entry)))) (now (queue .entry)) ⌝ }
+{
+    let answer = read(sheet);
+    let Reading::Sound(counts) = answer else {
+        return Pair::passed(answer.check());
+    };
+    let check = checked(counts, i, t, marks.len(), queue.len());
+    let Check::Fine = check else {
+        return Pair::passed(check);
+    };
+    let crossing = ask(sheet, counts, i.0, t.0, marks, queue);
+    if !crossing.hit {
+        return Pair::plain(Answer::Kept);
+    }
+    let marking = crossing.marking;
+    Pair {
+        answer: Answer::Broken,
+        marking,
+    }
+}

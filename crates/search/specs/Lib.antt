@@ -1,0 +1,4 @@
+pub mod Searched
+pub mod Sum
+pub mod State
+pub mod Table
