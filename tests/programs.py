@@ -9,7 +9,14 @@ from threading import Timer
 
 ROOT = Path(__file__).resolve().parent.parent
 TIME_LIMIT = 5  # seconds for one sheet, which needs some hundredths of one
+BATCH_TIME_LIMIT = 60  # seconds for one batch, which needs one or two
+WORKERS = 2  # batches that run at a time
 START_TIME = 0.15  # seconds after which a program surely reads
+
+
+def batches(items: list, count: int) -> list[list]:
+    """Every batch gets its share of each kind of item, so that all take about as long."""
+    return [items[index::count] for index in range(count)]
 
 
 def command(name: str) -> list[str]:

@@ -2,8 +2,8 @@
 
     python3 tests/run_tests.py
 
-The programs `judge` and `answers` must be built. Most sheets go to `answers`, which takes many in one run:
-where an emulator runs the programs, a start takes far longer than a sheet.
+The programs `judge`, `answers` and `questions` must be built. Most sheets go to `answers`, which takes many in one
+run: where an emulator runs the programs, a start takes far longer than a sheet. The pairs go to `questions`.
 """
 
 import sys
@@ -17,14 +17,13 @@ from multiprocessing import Pool
 from cases import answer_name, for_answers, for_judge, make_cases
 from checks import Checks, Failure, TooManyFailures
 from comparison import Case, differences
-from programs import run
+from pair_tests import compare_pairs
+from programs import BATCH_TIME_LIMIT, WORKERS, batches, run
 from second_by_hand import check_second_program
 from self_check import check_tests_can_fail
 from streams import check_streams
 
-WORKERS = 2
 BATCHES = 40
-BATCH_TIME_LIMIT = 60  # seconds for one batch, which needs about one
 MEMORY_LIMIT = 4 << 30  # bytes, so that a judge that reads an endless input to its end harms nobody
 
 LEAST_SHEETS = 20_000
@@ -37,17 +36,12 @@ def compare_sheets(checks: Checks) -> None:
     cases = make_cases(checks)
     judged = for_judge(cases)
     with Pool(WORKERS) as pool:
-        for failures in pool.imap(compare_answers, batches(for_answers(cases))):
+        for failures in pool.imap(compare_answers, batches(for_answers(cases), BATCHES)):
             checks.report(failures)
         for failures in pool.imap(compare_judge, judged, chunksize=10):
             checks.report(failures)
     print_counts(cases, judged)
     check_coverage(checks, cases, judged)
-
-
-def batches(cases: list[Case]) -> list[list[Case]]:
-    """Every batch gets its share of each kind of sheet, so that all take about as long."""
-    return [cases[index::BATCHES] for index in range(BATCHES)]
 
 
 def compare_answers(cases: list[Case]) -> list[Failure]:
@@ -106,6 +100,7 @@ def main() -> int:
         check_second_program(checks)
         check_streams(checks)
         compare_sheets(checks)
+        compare_pairs(checks)
     except TooManyFailures:
         print(f"stopped after {checks.failed} failures")
     print(f"{checks.failed} checks failed" if checks.failed else "all checks passed")

@@ -3,13 +3,19 @@
 What fails here is raised, because the means to report it are what is in doubt.
 """
 
+from collections.abc import Callable
 from contextlib import redirect_stdout
 from io import StringIO
 
+import pair_comparison
 from checks import Checks, Failure
 from comparison import Case, differences, expected_answer
 from named_cases import FIRST, HEAD, SMALLEST
+from pair_cases import CASES as PAIRS
+from pair_cases import EMPTY, ENOUGH, sheet_of
+from pair_comparison import Question, second_answer, second_faults
 from second.listing import listing
+from second.sheet import write
 
 CASES = [
     Case("first sheet", "sound", FIRST, listing(FIRST), shown=True),
@@ -44,13 +50,70 @@ WRONG = [
 ]
 
 
+# Cases a and j of 01, and a question with a claim, a transition and areas that are all wrong.
+CASE_A, CASE_J = (write(sheet_of(pair)) for name, pair, _ in PAIRS if name in ["a", "j"])
+QUESTIONS = [
+    Question("case a", CASE_A, 1, 1, ENOUGH),
+    Question("case j", CASE_J, 1, 1, ENOUGH),
+    Question("refused", FIRST, 6, 2, EMPTY),
+]
+ANSWERS = list(map(second_answer, QUESTIONS))
+KEPT = "kept marking 0 0" + 14 * " 0" + " areas zero zero\n"
+BROKEN = "broken marking 2 1" + 14 * " 0" + " areas zero zero\n"
+REFUSED = "refused 11 at 6 marking" + 16 * " 0" + " areas kept kept\n"
+
+WRONG_PAIRS = [
+    ("kept for broken", CASE_J, "broken marking 2 1", "kept marking 0 0"),
+    ("broken for kept", CASE_A, "kept marking 0 0", "broken marking 2 2"),
+    ("a marking that isn't inside", CASE_J, "marking 2 1", "marking 2 2"),
+    ("a marking that stays inside", CASE_J, "marking 2 1", "marking 4 1"),
+    ("a marking that isn't enabled", CASE_J, "marking 2 1", "marking 1 0"),
+    ("a bad marking with 20,001 tokens", CASE_J, "marking 2 1", "marking 20001 13334"),
+    ("a token beyond place n", CASE_J, "marking 2 1 0", "marking 2 1 1"),
+    ("a marking too short", CASE_J, "marking 2 1 0", "marking 2 1"),
+    ("a marking with kept", CASE_A, "kept marking 0 0", "kept marking 2 2"),
+    ("a marking with a refusal", FIRST, "at 6 marking 0", "at 6 marking 1"),
+    ("a dirty first area", CASE_A, KEPT, KEPT.replace("zero zero", "dirty zero")),
+    ("a dirty second area", CASE_J, BROKEN, BROKEN.replace("zero zero", "zero dirty")),
+    ("areas not cleared", CASE_A, KEPT, KEPT.replace("zero zero", "kept kept")),
+    ("areas cleared in vain", FIRST, REFUSED, REFUSED.replace("kept kept", "zero zero")),
+    ("12 before 11", FIRST, "refused 11 at 6", "refused 12 at 2"),
+    ("13 before 11", FIRST, "refused 11 at 6", "refused 13 at 0"),
+    ("another pair's detail", FIRST, "refused 11 at 6", "refused 11 at 2"),
+    ("kept for a refusal", FIRST, REFUSED, KEPT),
+    ("a missing answer about a pair", FIRST, REFUSED, ""),
+    ("an answer about a pair too many", FIRST, REFUSED, 2 * REFUSED),
+    ("a missing newline after a pair", FIRST, REFUSED, REFUSED[:-1]),
+    ("an end by a signal after a pair", FIRST, REFUSED, REFUSED + "(ended with status -11)"),
+]
+
+# Wrong answers of the second program itself: the question, and the bad marking that it gives or None.
+WRONG_SECOND = [
+    ("second program: kept for broken", 1, None),
+    ("second program: broken for kept", 0, (2, 2)),
+    ("second program: a bad marking with 20,001 tokens", 1, (20_001, 13_334)),
+]
+
+
 def check_tests_can_fail() -> None:
-    right = "".join(map(expected_answer, CASES))
-    demand("right output passes", not differences("right", CASES, right))
-    demand("no output is reported", len(differences("silent", CASES, "")) == len(CASES))
-    for name, data, words, wrong_words in WRONG:
+    check_reported(lambda output: differences("wrong", CASES, output), "".join(map(expected_answer, CASES)), WRONG)
+    check_reported(pair_failures, KEPT + BROKEN + REFUSED, WRONG_PAIRS)
+    for tokens in ["3 2", "20000 13333"]:
+        demand(f"{tokens} passes too", not pair_failures(KEPT + BROKEN.replace("2 1", tokens) + REFUSED))
+    for name, index, bad in WRONG_SECOND:
+        demand(f"{name} is reported", second_faults(QUESTIONS[index], ANSWERS[index]._replace(bad=bad)))
+
+
+def pair_failures(output: str) -> list[Failure]:
+    return pair_comparison.differences(QUESTIONS, ANSWERS, output)
+
+
+def check_reported(find: Callable[[str], list[Failure]], right: str, wrong: list[tuple[str, bytes, str, str]]) -> None:
+    demand("right output passes", not find(right))
+    demand("no output is reported for every sheet", {data for _, data, _, _ in wrong} <= {found.data for found in find("")})
+    for name, data, words, wrong_words in wrong:
         demand(f"{name}: the words are there", words in right)
-        found = differences("wrong", CASES, right.replace(words, wrong_words, 1))
+        found = find(right.replace(words, wrong_words, 1))
         demand(f"{name} is reported", [failure.data for failure in found] == [data])
         demand(f"{name} counts as a failure and is shown", failure_shown(found, data))
 

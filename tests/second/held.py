@@ -11,6 +11,7 @@ from second.sheet import (
     Sheet,
     Transition,
     claim_record,
+    outside,
     read,
 )
 
@@ -28,8 +29,8 @@ def held(data: bytes) -> str:
     sheet, refused = (NO_SHEET, answer) if isinstance(answer, Refusal) else (answer, None)
     lines = [
         *(_transition_line(sheet, refused, number) for number in range(MOST_TRANSITIONS + 2)),
-        f"start {_check(refused)} {_row(sheet.start)}",
-        f"target {_check(refused)} {KINDS[sheet.kind]} {_row(sheet.target)}",
+        f"start {_check(refused)} {row(sheet.start)}",
+        f"target {_check(refused)} {KINDS[sheet.kind]} {row(sheet.target)}",
         *(_claim_line(sheet, refused, number) for number in range(MOST_CLAIMS + 2)),
     ]
     return "".join(line + "\n" for line in lines)
@@ -37,28 +38,23 @@ def held(data: bytes) -> str:
 
 def _transition_line(sheet: Sheet, refused: Refusal | None, number: int) -> str:
     # "Each call on a sheet reads it all first; then 11, 12".
-    refused = refused or _outside(number, sheet.T, 12)
+    refused = refused or outside(number, sheet.T, 12)
     taken, put = NO_TRANSITION if refused else sheet.transitions[number - 1]
-    return f"transition {number} {_check(refused)} taken {_row(taken)} put {_row(put)}"
+    return f"transition {number} {_check(refused)} taken {row(taken)} put {row(put)}"
 
 
 def _claim_line(sheet: Sheet, refused: Refusal | None, number: int) -> str:
     """The record's own check stands last: "a second call with the same inputs gives that refusal"."""
-    refused = refused or _outside(number, len(sheet.claims), 11)
+    refused = refused or outside(number, len(sheet.claims), 11)
     coefficients, constant = claim = NO_CLAIM if refused else sheet.claims[number - 1]
     record = " ".join(["record", *map(str, b"" if refused else claim_record(claim))])
-    return f"claim {number} {_check(refused)} {_row(coefficients)} constant {constant} {record} {_check(refused)}"
-
-
-def _outside(number: int, count: int, refusal: int) -> Refusal | None:
-    """11 and 12: "number 0 or above the count"; the detail is "that number"."""
-    return None if 1 <= number <= count else Refusal(refusal, number)
+    return f"claim {number} {_check(refused)} {row(coefficients)} constant {constant} {record} {_check(refused)}"
 
 
 def _check(refused: Refusal | None) -> str:
     return f"refused {refused.number} at {refused.detail}" if refused else "fine"
 
 
-def _row(values: Sequence[int]) -> str:
+def row(values: Sequence[int]) -> str:
     """Held as 16 numbers, "zero beyond place n"."""
     return " ".join(map(str, [*values, *(MOST_PLACES - len(values)) * [0]]))

@@ -40,6 +40,11 @@ class Refusal(NamedTuple):
     detail: int
 
 
+def outside(number: int, count: int, refusal: int) -> Refusal | None:
+    """11 and 12: "number 0 or above the count"; the detail is "that number"."""
+    return None if 1 <= number <= count else Refusal(refusal, number)
+
+
 class _Fault(Exception):
     """Ends the reading: "the first fault in that order is the answer"."""
 
