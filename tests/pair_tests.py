@@ -1,7 +1,7 @@
 """Asks `questions` about many pairs of a half space and a transition, and holds its answers to the second program."""
 
 from collections import Counter
-from multiprocessing import Pool
+from concurrent.futures import ProcessPoolExecutor
 from typing import NamedTuple
 
 from checks import Checks, Failure
@@ -52,8 +52,8 @@ class Compared(NamedTuple):
 def compare_pairs(checks: Checks) -> None:
     questions = make_questions(checks)
     answers, kinds, totals = Counter(), Counter(), Counter()
-    with Pool(WORKERS) as pool:
-        for compared in pool.imap(compare, batches(questions, BATCHES)):
+    with ProcessPoolExecutor(WORKERS) as pool:
+        for compared in pool.map(compare, batches(questions, BATCHES)):
             checks.report(compared.failures)
             answers += compared.answers
             kinds += compared.kinds

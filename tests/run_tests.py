@@ -12,7 +12,7 @@ sys.dont_write_bytecode = True  # before the imports of our own modules, which w
 
 import resource
 from collections import Counter
-from multiprocessing import Pool
+from concurrent.futures import ProcessPoolExecutor
 
 from cases import answer_name, for_answers, for_judge, make_cases
 from checks import Checks, Failure, TooManyFailures
@@ -35,10 +35,10 @@ LEAST_JUDGED = 250
 def compare_sheets(checks: Checks) -> None:
     cases = make_cases(checks)
     judged = for_judge(cases)
-    with Pool(WORKERS) as pool:
-        for failures in pool.imap(compare_answers, batches(for_answers(cases), BATCHES)):
+    with ProcessPoolExecutor(WORKERS) as pool:
+        for failures in pool.map(compare_answers, batches(for_answers(cases), BATCHES)):
             checks.report(failures)
-        for failures in pool.imap(compare_judge, judged, chunksize=10):
+        for failures in pool.map(compare_judge, judged, chunksize=10):
             checks.report(failures)
     print_counts(cases, judged)
     check_coverage(checks, cases, judged)
