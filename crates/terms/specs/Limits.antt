@@ -39,3 +39,11 @@ areaSize = 20000
 -- a number counted from 1, of so many
 abbrev pub among : ℕ → ℕ → Bool
 among i count = cond (leb 1 i) (leb i count) false
+
+-- the entries of an area for a listing's text
+abbrev pub textSize : ℕ
+textSize = 4096
+
+-- the tokens that a place of a walk's marking may hold
+abbrev pub mostTokens : ℕ
+mostTokens = 65535

@@ -1,5 +1,6 @@
 -- Refusals: document 01, "Numbers that say no". Each has its number and a detail.
 use Prim.Native.Nat.{ℕ}
+use Rattle.terms.specs.Limits.{textSize}
 use Rattle.terms.specs.declared.Place.{Place}
 use Rattle.terms.specs.declared.Transition.{Transition}
 use Rattle.terms.specs.declared.Claim.{Claim}
@@ -33,3 +34,14 @@ notATransition t = record { number = 12; detail = OfTransition t }
 -- 13, with 0: a work area is too small
 abbrev pub smallArea : Refusal
 smallArea = record { number = 13; detail = Nothing }
+
+-- 15, with the lowest place that is short; 16, with the lowest place that would pass 65,535
+abbrev pub notEnabled : Place → Refusal
+notEnabled p = record { number = 15; detail = OfPlace p }
+
+abbrev pub tooMany : Place → Refusal
+tooMany p = record { number = 16; detail = OfPlace p }
+
+-- 19, with the length needed: the area for a listing's text is too short (a number that 02 brings)
+abbrev pub smallText : Refusal
+smallText = record { number = 19; detail = Length textSize }

@@ -3,7 +3,7 @@ ghost use mathlib.Core.Path.{_≡_};
 ghost use lib.IntN.{natAbs};
 ghost use Rattle.signed.specs.Twos.{twos8, twos16};
 ghost use Rattle.terms.specs.Limits.{among as isAmong, placesFit, transitionsFit, weightFits, coefficientFits, constantFits};
-ghost use Rattle.terms.specs.Refusals.{detailOf, refusedAt, notAClaim, notATransition, smallArea};
+ghost use Rattle.terms.specs.Refusals.{detailOf, refusedAt, notAClaim, notATransition, smallArea, notEnabled, tooMany, smallText};
 
 // Places, transitions and claims are counted apart, each from 1: none is ever taken for another.
 pub struct Place(pub usize);
@@ -14,6 +14,9 @@ pub struct Claim(pub usize);
 
 impl Place {
     pub const MOST: usize = 16;
+
+    // The tokens that a place of a sheet or of a walk holds at most.
+    pub const TOKENS: u16 = 65535;
 }
 
 impl Transition {
@@ -36,6 +39,13 @@ pub struct Area {}
 
 impl Area {
     pub const SIZE: usize = 20000;
+}
+
+// The area into which a listing is written: the longest has fewer bytes.
+pub struct Text {}
+
+impl Text {
+    pub const SIZE: usize = 4096;
 }
 
 // A weight taken or put.
@@ -175,6 +185,33 @@ impl Refusal {
         Refusal {
             number: 13,
             detail: Detail::Nothing,
+        }
+    }
+
+    pub fn not_enabled(p: Place) -> Refusal
+        ensures { λ r. ⌜ r ≡ notEnabled p ⌝ }
+    {
+        Refusal {
+            number: 15,
+            detail: Detail::OfPlace(p),
+        }
+    }
+
+    pub fn too_many(p: Place) -> Refusal
+        ensures { λ r. ⌜ r ≡ tooMany p ⌝ }
+    {
+        Refusal {
+            number: 16,
+            detail: Detail::OfPlace(p),
+        }
+    }
+
+    pub fn small_text() -> Refusal
+        ensures { λ r. ⌜ r ≡ smallText ⌝ }
+    {
+        Refusal {
+            number: 19,
+            detail: Detail::Length(Text::SIZE),
         }
     }
 
