@@ -1,8 +1,6 @@
 // A half space and a transition, as numbers: does some marking inside lead outside?
 ghost use mathlib.Core.Path.{_≡_};
-ghost use Prim.Native.Nat.{_≤_};
 ghost use lib.ListN.{length, take};
-ghost use Rattle.search.specs.Searched.{Wiped};
 ghost use Rattle.nets.specs.Window.{low-end, high-end};
 ghost use Rattle.format.specs.Reading.{transitionIn};
 ghost use Rattle.pairs.specs.Crosses.{Crosses, Ready, space};
@@ -38,9 +36,8 @@ pub fn crossing_of(
     queue: &mut [u16],
 ) -> Crossing
     requires { ⌜ Ready (take n k) c (now sheet) n at ⌝ }
-    requires { ⌜ (20000 ≤ length (now marks)) × (20000 ≤ length (now queue)) ⌝ }
+    requires { ⌜ (length (now marks) ≡ 20000) × (length (now queue) ≡ 20000) ⌝ }
     ensures { λ r. ⌜ Crosses (space (take n k) c) (transitionIn (now (sheet .entry)) n at) (r .hit) (r .marking) ⌝ }
-    ensures { λ _. ⌜ Wiped 20000 (now (marks .entry)) (now (marks .exit)) × Wiped 20000 (now (queue .entry)) (now (queue .exit)) ⌝ }
 {
     let w = window_at(k, c, sheet, n, at);
     let found = find(k, n, w.lo, w.hi, marks, queue);

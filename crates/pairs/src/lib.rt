@@ -21,6 +21,7 @@ use reader::Reading;
 use reader::layout::behind_claims;
 use reader::layout::behind_transitions;
 use reader::read;
+use search::areas::wipe;
 use sheet::rows::coefficients_from;
 use terms::Area;
 use terms::Claim;
@@ -83,6 +84,27 @@ fn checked(counts: Counts, i: Claim, t: Transition, marks: usize, queue: usize) 
 }
 
 // Claim i and transition t of a sound sheet.
+fn ask_in(
+    sheet: &[u8],
+    counts: Counts,
+    i: usize,
+    t: usize,
+    marks: &mut [u8],
+    queue: &mut [u16],
+) -> Crossing
+    requires { ⌜ Asked (now sheet) counts i t ⌝ }
+    requires { ⌜ (length (now marks) ≡ 20000) × (length (now queue) ≡ 20000) ⌝ }
+    ensures { λ r. ⌜ ((x : Contents) → reading (now (sheet .entry)) ≡ sound x → Crosses (halfSpace (claim x i)) (transition (x .setting .net) t) (r .hit) (r .marking)) ⌝ }
+{
+    let n = counts.places;
+    let from = behind_claims(n, counts.transitions, i - 1);
+    let k = coefficients_from(sheet, from + 2, n);
+    let c = Constant::of_bytes(sheet[from + 2 + n], sheet[from + 3 + n]);
+    let at = behind_transitions(n, t - 1);
+    crossing_of(k, c.0, sheet, n, at, marks, queue)
+}
+
+// The same in areas that may be longer, and that are wiped afterwards.
 fn ask(
     sheet: &[u8],
     counts: Counts,
@@ -96,12 +118,16 @@ fn ask(
     ensures { λ r. ⌜ ((x : Contents) → reading (now (sheet .entry)) ≡ sound x → Crosses (halfSpace (claim x i)) (transition (x .setting .net) t) (r .hit) (r .marking)) ⌝ }
     ensures { λ _. ⌜ Wiped 20000 (now (marks .entry)) (now (marks .exit)) × Wiped 20000 (now (queue .entry)) (now (queue .exit)) ⌝ }
 {
-    let n = counts.places;
-    let from = behind_claims(n, counts.transitions, i - 1);
-    let k = coefficients_from(sheet, from + 2, n);
-    let c = Constant::of_bytes(sheet[from + 2 + n], sheet[from + 3 + n]);
-    let at = behind_transitions(n, t - 1);
-    crossing_of(k, c.0, sheet, n, at, marks, queue)
+    let crossing = ask_in(
+        sheet,
+        counts,
+        i,
+        t,
+        &mut marks[..Area::SIZE],
+        &mut queue[..Area::SIZE],
+    );
+    wipe(marks, queue);
+    crossing
 }
 
 // Does transition t keep claim i? Start and target play no part.

@@ -1,3 +1,4 @@
+pub mod Lent
 pub mod Theory
 pub mod Fills
 pub mod Queue

@@ -3,16 +3,15 @@
 ghost use mathlib.Core.Path.{_≡_};
 ghost use Prim.Native.Nat.{_≤_};
 ghost use lib.ListN.{length, take, replicate};
-ghost use Rattle.search.specs.Searched.{Searched, Ends, Wiped};
+ghost use Rattle.search.specs.Searched.{Searched, Ends};
 ghost use Rattle.search.specs.Table.{Looked};
 
-mod areas; // areas.rt: an area is cleared
+pub mod areas; // areas.rt: the areas are cleared
 mod back; // back.rt: the counts that lead to an entry of the queue
 mod steps; // steps.rt: the search itself
 mod table; // table.rt: where the table puts 0 and the window
 
 use areas::clear8;
-use areas::clear16;
 use back::search;
 use table::longest;
 use table::placed;
@@ -22,9 +21,7 @@ pub struct Found {
     pub x: [u16; 16],
 }
 
-const SIZE: usize = 20000;
-
-// The answer for as many coefficients as there are, in areas of SIZE entries; the counts go to x.
+// The answer for as many coefficients as there are; the counts go to x.
 fn look(k: &[i8], lo: i32, hi: i32, marks: &mut [u8], queue: &mut [u16], x: &mut [u16]) -> bool
     requires { ⌜ (length (now k) ≤ 16) × (length (now marks) ≡ 20000) × (length (now queue) ≡ 20000) ⌝ }
     requires { ⌜ now x ≡ replicate (length (now k)) 0 ⌝ }
@@ -40,26 +37,13 @@ fn look(k: &[i8], lo: i32, hi: i32, marks: &mut [u8], queue: &mut [u16], x: &mut
     search(k, &mut marks[..size], queue, x, t.start, t.lo, t.hi)
 }
 
-// The answer, with both areas cleared.
-fn find_in(k: [i8; 16], n: usize, lo: i32, hi: i32, marks: &mut [u8], queue: &mut [u16]) -> Found
+// The first n of k count. What the areas hold before does not matter, and what they hold afterwards is not said: `areas::wipe` clears them.
+pub fn find(k: [i8; 16], n: usize, lo: i32, hi: i32, marks: &mut [u8], queue: &mut [u16]) -> Found
     requires { ⌜ (n ≤ 16) × (length (now marks) ≡ 20000) × (length (now queue) ≡ 20000) ⌝ }
     requires { ⌜ Ends lo hi ⌝ }
     ensures { λ r. ⌜ Searched (take n k) lo hi n r ⌝ }
-    ensures { λ _. ⌜ (now (marks .exit) ≡ replicate 20000 0) × (now (queue .exit) ≡ replicate 20000 0) ⌝ }
 {
     let mut x = [0u16; 16];
     let hit = look(&k[..n], lo, hi, marks, queue, &mut x[..n]);
-    clear8(marks);
-    clear16(queue);
     Found { hit, x }
-}
-
-// The first n of k count. The first SIZE entries of both areas are 0 afterwards; what they hold before does not matter.
-pub fn find(k: [i8; 16], n: usize, lo: i32, hi: i32, marks: &mut [u8], queue: &mut [u16]) -> Found
-    requires { ⌜ (n ≤ 16) × (20000 ≤ length (now marks)) × (20000 ≤ length (now queue)) ⌝ }
-    requires { ⌜ Ends lo hi ⌝ }
-    ensures { λ r. ⌜ Searched (take n k) lo hi n r ⌝ }
-    ensures { λ _. ⌜ Wiped 20000 (now (marks .entry)) (now (marks .exit)) × Wiped 20000 (now (queue .entry)) (now (queue .exit)) ⌝ }
-{
-    find_in(k, n, lo, hi, &mut marks[..SIZE], &mut queue[..SIZE])
 }

@@ -51,8 +51,8 @@ returns c =
     let r = c .before .before .before .before .before .before .before .before .before .before .before .before .before .before .before .before .pre .0 in
     let f = c .before .before .before .before .before .before .before .find in
     let miss : f .result .hit ≡ false = not-true (f .result .hit) (c .if1 .taken) in
-    let w : Without ks (toZ w32 (ofZ w32 (c .before .before .before .before .before .before .before .before .before .before .before .before .window-at .result .lo))) (toZ w32 (ofZ w32 (c .before .before .before .before .before .before .before .before .before .before .before .before .window-at .result .hi))) (f .result .x) = subst (λ (q : Bool). Answer ks (toZ w32 (ofZ w32 (c .before .before .before .before .before .before .before .before .before .before .before .before .window-at .result .lo))) (toZ w32 (ofZ w32 (c .before .before .before .before .before .before .before .before .before .before .before .before .window-at .result .hi))) (a .n) (f .result .x) q) miss (f .ensures .0) in
-    ((kept-so (take (a .n) (a .k)) (a .c) (a .sheet .now) (a .n) (a .at) r (f .result .x) (rw (lo-is (c .before .before .before .before .before .before .before .before .before .before .before .before), hi-is (c .before .before .before .before .before .before .before .before .before .before .before .before)) at w), w .row), f .ensures .1)
+    let w : Without ks (toZ w32 (ofZ w32 (c .before .before .before .before .before .before .before .before .before .before .before .before .window-at .result .lo))) (toZ w32 (ofZ w32 (c .before .before .before .before .before .before .before .before .before .before .before .before .window-at .result .hi))) (f .result .x) = subst (λ (q : Bool). Answer ks (toZ w32 (ofZ w32 (c .before .before .before .before .before .before .before .before .before .before .before .before .window-at .result .lo))) (toZ w32 (ofZ w32 (c .before .before .before .before .before .before .before .before .before .before .before .before .window-at .result .hi))) (a .n) (f .result .x) q) miss (f .ensures) in
+    (kept-so (take (a .n) (a .k)) (a .c) (a .sheet .now) (a .n) (a .at) r (f .result .x) (rw (lo-is (c .before .before .before .before .before .before .before .before .before .before .before .before), hi-is (c .before .before .before .before .before .before .before .before .before .before .before .before)) at w), w .row)
 
 add-weights-from : tie.Need-add-weights-from
 add-weights-from c = search needs
@@ -67,7 +67,7 @@ beside-requires c κs =
     let r = c .before .before .before .before .before .before .before .before .before .before .before .before .before .before .before .before .before .pre .0 in
     let f = c .before .before .before .before .before .before .before .before .find in
     let hit : f .result .hit ≡ true = not-false (f .result .hit) (c .before .if1 .left) in
-    let b : Best ks (toZ w32 (ofZ w32 (c .before .before .before .before .before .before .before .before .before .before .before .before .before .window-at .result .lo))) (toZ w32 (ofZ w32 (c .before .before .before .before .before .before .before .before .before .before .before .before .before .window-at .result .hi))) (a .n) (f .result .x) = subst (λ (q : Bool). Answer ks (toZ w32 (ofZ w32 (c .before .before .before .before .before .before .before .before .before .before .before .before .before .window-at .result .lo))) (toZ w32 (ofZ w32 (c .before .before .before .before .before .before .before .before .before .before .before .before .before .window-at .result .hi))) (a .n) (f .result .x) q) hit (f .ensures .0) in
+    let b : Best ks (toZ w32 (ofZ w32 (c .before .before .before .before .before .before .before .before .before .before .before .before .before .window-at .result .lo))) (toZ w32 (ofZ w32 (c .before .before .before .before .before .before .before .before .before .before .before .before .before .window-at .result .hi))) (a .n) (f .result .x) = subst (λ (q : Bool). Answer ks (toZ w32 (ofZ w32 (c .before .before .before .before .before .before .before .before .before .before .before .before .before .window-at .result .lo))) (toZ w32 (ofZ w32 (c .before .before .before .before .before .before .before .before .before .before .before .before .before .window-at .result .hi))) (a .n) (f .result .x) q) hit (f .ensures) in
     b .bounded
 
 same-length-3 : tie.Need-same-length-3
@@ -83,10 +83,10 @@ returns-2 c =
     let r = c .before .before .before .before .before .before .before .before .before .before .before .before .before .before .before .before .before .before .pre .0 in
     let f = c .before .before .before .before .before .before .before .before .before .find in
     let hit : f .result .hit ≡ true = not-false (f .result .hit) (c .before .before .if1 .left) in
-    let b : Best ks (toZ w32 (ofZ w32 (c .before .before .before .before .before .before .before .before .before .before .before .before .before .before .window-at .result .lo))) (toZ w32 (ofZ w32 (c .before .before .before .before .before .before .before .before .before .before .before .before .before .before .window-at .result .hi))) (a .n) (f .result .x) = subst (λ (q : Bool). Answer ks (toZ w32 (ofZ w32 (c .before .before .before .before .before .before .before .before .before .before .before .before .before .before .window-at .result .lo))) (toZ w32 (ofZ w32 (c .before .before .before .before .before .before .before .before .before .before .before .before .before .before .window-at .result .hi))) (a .n) (f .result .x) q) hit (f .ensures .0) in
+    let b : Best ks (toZ w32 (ofZ w32 (c .before .before .before .before .before .before .before .before .before .before .before .before .before .before .window-at .result .lo))) (toZ w32 (ofZ w32 (c .before .before .before .before .before .before .before .before .before .before .before .before .before .before .window-at .result .hi))) (a .n) (f .result .x) = subst (λ (q : Bool). Answer ks (toZ w32 (ofZ w32 (c .before .before .before .before .before .before .before .before .before .before .before .before .before .before .window-at .result .lo))) (toZ w32 (ofZ w32 (c .before .before .before .before .before .before .before .before .before .before .before .before .before .before .window-at .result .hi))) (a .n) (f .result .x) q) hit (f .ensures) in
     let best = rw (lo-is (c .before .before .before .before .before .before .before .before .before .before .before .before .before .before), hi-is (c .before .before .before .before .before .before .before .before .before .before .before .before .before .before)) at b in
     let t = transitionIn (a .sheet .now) (a .n) (a .at) in
-    ((t .taken ⊞ take (a .n) (f .result .x), shown-so (take (a .n) (a .k)) (a .c) (a .sheet .now) (a .n) (a .at) r (f .result .x) best, c .beside .ensures ∙ ap (λ w. w ⊞ f .result .x) (c .before .weights-from .ensures) ∙ row-so (take (a .n) (a .k)) (a .c) (a .sheet .now) (a .n) (a .at) r (f .result .x) best), f .ensures .1)
+    (t .taken ⊞ take (a .n) (f .result .x), shown-so (take (a .n) (a .k)) (a .c) (a .sheet .now) (a .n) (a .at) r (f .result .x) best, c .beside .ensures ∙ ap (λ w. w ⊞ f .result .x) (c .before .weights-from .ensures) ∙ row-so (take (a .n) (a .k)) (a .c) (a .sheet .now) (a .n) (a .at) r (f .result .x) best)
 
 pub crossing-of-spec : {M : Type 1} → statement M
 crossing-of-spec =
