@@ -1,11 +1,11 @@
 -- The refusals of the pair question in their order: where none is given, every test held.
 use mathlib.Core.Path.{_≡_, refl, sym}
-use mathlib.Core.Bool.{Bool, true, false}
+use mathlib.Core.Bool.{Bool, true, false, cond}
 use Prim.Native.Nat.{ℕ, _≤_}
 use native.Mathlib.Omega.{arith}
 use lib.Dec.{leb}
 use borrow.Author.Tests.{leb-true}
-use Rattle.terms.specs.Limits.{among, areaSize}
+use Rattle.terms.specs.Limits.{among, areasFit}
 use Rattle.terms.specs.Refusals.{notAClaim, notATransition, smallArea}
 use Rattle.terms.specs.declared.Refusal.{Refusal}
 use Rattle.terms.specs.declared.Claim.{Claim}
@@ -17,9 +17,16 @@ use Rattle.reader.specs.declared.Check.the-variants.{Fine, Refused}
 use Rattle.sheet.proofs.Taken.{among-some}
 use Rattle.pairs.specs.Pairs.{countedCheck}
 
-held-so : (b : Bool) (x : Check) (r : Refusal) → choose b x (Refused r) ≡ Fine → (b ≡ true) × (x ≡ Fine)
+pub held-so : (b : Bool) (x : Check) (r : Refusal) → choose b x (Refused r) ≡ Fine → (b ≡ true) × (x ≡ Fine)
 held-so true x r e = (refl, e)
 held-so false x r e = absurd (let z : _≡_ {A = ℕ} 0 1 = cc in omega arith)
+
+pub both-fit : (marks queue : ℕ) → areasFit marks queue ≡ true → (20000 ≤ marks) × (20000 ≤ queue)
+both-fit marks queue e = by (leb 20000 marks) refl e
+  where
+    by : (b : Bool) → b ≡ leb 20000 marks → cond b (leb 20000 queue) false ≡ true → (20000 ≤ marks) × (20000 ≤ queue)
+    by true f g = (leb-true 20000 marks (sym f), leb-true 20000 queue g)
+    by false f g = absurd (let z : _≡_ {A = ℕ} 0 1 = cc in omega arith)
 
 pub record Passed (k : Counts) (i : Claim) (t : Transition) (marks queue : ℕ) : Type 0 where
   pub claim : (1 ≤ i .0) × (i .0 ≤ k .claims)
@@ -31,6 +38,6 @@ pub passed-all : (k : Counts) (i : Claim) (t : Transition) (marks queue : ℕ) �
 passed-all k i t marks queue e =
     let a = held-so (among (i .0) (k .claims)) _ (notAClaim i) e in
     let b = held-so (among (t .0) (k .transitions)) _ (notATransition t) (a .1) in
-    let c = held-so (leb areaSize marks) _ smallArea (b .1) in
-    let d = held-so (leb areaSize queue) Fine smallArea (c .1) in
-    record { claim = among-some (i .0) (k .claims) (a .0); transition = among-some (t .0) (k .transitions) (b .0); marks-room = leb-true 20000 marks (c .0); queue-room = leb-true 20000 queue (d .0) }
+    let c = held-so (areasFit marks queue) Fine smallArea (b .1) in
+    let d = both-fit marks queue (c .0) in
+    record { claim = among-some (i .0) (k .claims) (a .0); transition = among-some (t .0) (k .transitions) (b .0); marks-room = d .0; queue-room = d .1 }

@@ -2,9 +2,8 @@
 use mathlib.Core.Path.{_≡_}
 use mathlib.Core.List.{List, [], _++_}
 use Prim.Native.Nat.{ℕ, _≤_}
-use lib.Dec.{leb}
 use lib.ListN.{length, drop, replicate}
-use Rattle.terms.specs.Limits.{among, areaSize}
+use Rattle.terms.specs.Limits.{among, areasFit, areaSize}
 use Rattle.terms.specs.Refusals.{notAClaim, notATransition, smallArea}
 use Rattle.terms.specs.declared.Claim.{Claim}
 use Rattle.terms.specs.declared.Transition.{Transition}
@@ -26,7 +25,7 @@ abbrev pub countedCheck : Counts → Claim → Transition → ℕ → ℕ → Ch
 countedCheck k i t marks queue =
     choose (among (i .0) (k .claims))
     (choose (among (t .0) (k .transitions))
-    (choose (leb areaSize marks) (choose (leb areaSize queue) Fine (Refused smallArea)) (Refused smallArea))
+    (choose (areasFit marks queue) Fine (Refused smallArea))
     (Refused (notATransition t)))
     (Refused (notAClaim i))
 

@@ -74,10 +74,7 @@ fn checked(counts: Counts, i: Claim, t: Transition, marks: usize, queue: usize) 
     if !among(t.0, counts.transitions) {
         return Check::Refused(Refusal::no_transition(t));
     }
-    if marks < Area::SIZE {
-        return Check::Refused(Refusal::small_area());
-    }
-    if queue < Area::SIZE {
+    if !Area::fit(marks, queue) {
         return Check::Refused(Refusal::small_area());
     }
     Check::Fine

@@ -36,6 +36,9 @@ mostClaims = 32
 abbrev pub areaSize : ℕ
 areaSize = 20000
 
+abbrev pub areasFit : ℕ → ℕ → Bool
+areasFit marks queue = cond (leb areaSize marks) (leb areaSize queue) false
+
 -- a number counted from 1, of so many
 abbrev pub among : ℕ → ℕ → Bool
 among i count = cond (leb 1 i) (leb i count) false

@@ -2,7 +2,7 @@
 ghost use mathlib.Core.Path.{_≡_};
 ghost use lib.IntN.{natAbs};
 ghost use Rattle.signed.specs.Twos.{twos8, twos16};
-ghost use Rattle.terms.specs.Limits.{among as isAmong, placesFit, transitionsFit, weightFits, coefficientFits, constantFits};
+ghost use Rattle.terms.specs.Limits.{among as isAmong, placesFit, transitionsFit, weightFits, coefficientFits, constantFits, areasFit};
 ghost use Rattle.terms.specs.Refusals.{detailOf, refusedAt, notAClaim, notATransition, smallArea, notEnabled, tooMany, smallText};
 
 // Places, transitions and claims are counted apart, each from 1: none is ever taken for another.
@@ -39,6 +39,17 @@ pub struct Area {}
 
 impl Area {
     pub const SIZE: usize = 20000;
+
+    // Are both areas long enough?
+    pub fn fit(marks: usize, queue: usize) -> bool
+        ensures { λ r. ⌜ r ≡ areasFit marks queue ⌝ }
+    {
+        if marks < Area::SIZE {
+            false
+        } else {
+            Area::SIZE <= queue
+        }
+    }
 }
 
 // The area into which a listing is written: the longest has fewer bytes.

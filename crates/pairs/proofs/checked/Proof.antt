@@ -1,8 +1,8 @@
 -- `checked` meets its contract: the tests come in the definition's order.
-use mathlib.Core.Path.{_≡_, refl, _∙_, sym, ap}
+use mathlib.Core.Path.{_≡_, _∙_, sym, ap}
 use mathlib.Core.Bool.{true, false}
-use borrow.Author.Tests.{not-true, not-false, le-leb, lt-leb}
-use Rattle.terms.specs.Limits.{among}
+use borrow.Author.Tests.{not-true, not-false}
+use Rattle.terms.specs.Limits.{among, areasFit}
 use Rattle.reader.specs.declared.Check.the-variants.{Refused}
 use borrow.Author.Needs.{needs}
 use Rattle.pairs.proofs.checked.Statement.{statement}
@@ -33,32 +33,27 @@ returns-2 c =
     let q : among (a .t .0) (a .counts .transitions) ≡ false = sym (c .before .before .among2 .ensures) ∙ not-true (c .before .before .among2 .result) (c .before .if2 .taken) in
     rw (p, q) (ap Refused (c .no-transition .ensures))
 
+fit-requires : tie.Need-fit-requires
+fit-requires c κs = search needs
+
 small-area-requires : tie.Need-small-area-requires
 small-area-requires c κs = search needs
 
 returns-3 : tie.Need-returns-3
 returns-3 c =
-    let a = c .before .before .before .before .before .before .args in
-    let p : among (a .i .0) (a .counts .claims) ≡ true = sym (c .before .before .before .before .before .among .ensures) ∙ not-false (c .before .before .before .before .before .among .result) (c .before .before .before .before .if1 .left) in
-    let q : among (a .t .0) (a .counts .transitions) ≡ true = sym (c .before .before .before .among2 .ensures) ∙ not-false (c .before .before .before .among2 .result) (c .before .before .if2 .left) in
-    rw (p, q, lt-leb 20000 (a .marks) (c .before .if3 .taken)) (ap Refused (c .small-area .ensures))
-
-small-area-requires-2 : tie.Need-small-area-requires-2
-small-area-requires-2 c κs = search needs
-
-returns-4 : tie.Need-returns-4
-returns-4 c =
     let a = c .before .before .before .before .before .before .before .args in
     let p : among (a .i .0) (a .counts .claims) ≡ true = sym (c .before .before .before .before .before .before .among .ensures) ∙ not-false (c .before .before .before .before .before .before .among .result) (c .before .before .before .before .before .if1 .left) in
     let q : among (a .t .0) (a .counts .transitions) ≡ true = sym (c .before .before .before .before .among2 .ensures) ∙ not-false (c .before .before .before .before .among2 .result) (c .before .before .before .if2 .left) in
-    rw (p, q, le-leb 20000 (a .marks) (c .before .before .if3 .left), lt-leb 20000 (a .queue) (c .before .if4 .taken)) (ap Refused (c .small-area2 .ensures))
+    let f : areasFit (a .marks) (a .queue) ≡ false = sym (c .before .before .fit .ensures) ∙ not-true (c .before .before .fit .result) (c .before .if3 .taken) in
+    rw (p, q, f) (ap Refused (c .small-area .ensures))
 
-returns-5 : tie.Need-returns-5
-returns-5 c =
+returns-4 : tie.Need-returns-4
+returns-4 c =
     let a = c .before .before .before .before .before .before .args in
     let p : among (a .i .0) (a .counts .claims) ≡ true = sym (c .before .before .before .before .before .among .ensures) ∙ not-false (c .before .before .before .before .before .among .result) (c .before .before .before .before .if1 .left) in
     let q : among (a .t .0) (a .counts .transitions) ≡ true = sym (c .before .before .before .among2 .ensures) ∙ not-false (c .before .before .before .among2 .result) (c .before .before .if2 .left) in
-    rw (p, q, le-leb 20000 (a .marks) (c .before .if3 .left), le-leb 20000 (a .queue) (c .if4 .left))
+    let f : areasFit (a .marks) (a .queue) ≡ true = sym (c .before .fit .ensures) ∙ not-false (c .before .fit .result) (c .if3 .left) in
+    rw (p, q, f)
 
 pub checked-spec : {M : Type 1} → statement M
 checked-spec =
@@ -70,8 +65,7 @@ checked-spec =
     among-requires-2
     no-transition-requires
     returns-2
+    fit-requires
     small-area-requires
     returns-3
-    small-area-requires-2
-    returns-4
-    returns-5)
+    returns-4)
