@@ -49,6 +49,10 @@ TargetInside q h = (m : Marking) × IsTarget (q .target) m × Inside h m
 unfoldable pub SomeAbove : List ℤ → Type 0
 SomeAbove k = (p : ℕ) × (p < length k) × (pos 0 <ℤ getD k p (pos 0))
 
+-- some coefficient is below zero: what Theorem 3 of 004 asks beside one above
+unfoldable pub SomeBelow : List ℤ → Type 0
+SomeBelow k = (p : ℕ) × (p < length k) × (getD k p (pos 0) <ℤ pos 0)
+
 -- t is the lowest transition that breaks it, and m is a bad marking shown for it
 pub record BrokenFirst (q : Setting) (h : HalfSpace) (t : ℕ) (m : Marking) : Type 0 where
   pub there : IsTransition (q .net) t

@@ -11,11 +11,11 @@ use Rattle.nets.specs.Nets as nets
 use Rattle.nets.specs.HalfSpaces as spaces
 use Rattle.format.specs.Read.{Read, sound, refused, choose}
 use Rattle.format.specs.Contents.{Contents, halfSpace, claim}
-use Rattle.format.specs.Reading.{reading}
 use Rattle.reader.specs.Answers.{countsOf}
 use Rattle.reader.specs.declared.Counts.{Counts}
 use Rattle.reader.specs.declared.Check.{Check}
 use Rattle.reader.specs.declared.Check.the-variants.{Fine, Refused}
+use Rattle.sheet.specs.Known.{Known}
 use Rattle.pairs.specs.declared.Answer.{Answer}
 use Rattle.pairs.specs.declared.Answer.the-variants as answers
 use Rattle.pairs.specs.declared.Pair.{Pair}
@@ -55,11 +55,9 @@ abbrev pub IsPair : Read Contents → Claim → Transition → ℕ → ℕ → P
 IsPair (refused q) i t marks queue r = r ≡ plainPair (answers.Refused q)
 IsPair (sound x) i t marks queue r = IsPairIn (countedCheck (countsOf x) i t marks queue) x i t r
 
--- what the inner question asks: a sound sheet with these counts, and numbers that are there
+-- what the inner question asks: a sheet that was read, and numbers that are there
 pub record Asked (s : List ℕ) (k : Counts) (i t : ℕ) : Type 0 where
-  pub contents : Contents
-  pub is-read : reading s ≡ sound contents
-  pub counts : countsOf contents ≡ k
+  pub known : Known s k
   pub some-claim : 1 ≤ i
   pub most-claims : i ≤ k .claims
   pub some-transition : 1 ≤ t

@@ -22,10 +22,9 @@ use reader::layout::behind_claims;
 use reader::layout::behind_transitions;
 use reader::read;
 use search::areas::wipe;
-use sheet::rows::coefficients_from;
+use sheet::rows::numbers_at;
 use terms::Area;
 use terms::Claim;
-use terms::Constant;
 use terms::Place;
 use terms::Refusal;
 use terms::Transition;
@@ -95,10 +94,10 @@ fn ask_in(
 {
     let n = counts.places;
     let from = behind_claims(n, counts.transitions, i - 1);
-    let k = coefficients_from(sheet, from + 2, n);
-    let c = Constant::of_bytes(sheet[from + 2 + n], sheet[from + 3 + n]);
+    let h = numbers_at(sheet, from, n);
+    let k = h.coefficients;
     let at = behind_transitions(n, t - 1);
-    crossing_of(k, c.0, sheet, n, at, marks, queue)
+    crossing_of(k, h.constant, sheet, n, at, marks, queue)
 }
 
 // The same in areas that may be longer, and that are wiped afterwards.

@@ -6,8 +6,9 @@ ghost use lib.IntN.{pos};
 ghost use lib.ListN.{length};
 ghost use Rattle.signed.specs.Twos.{twos8};
 ghost use Rattle.nets.specs.HalfSpaces.{sixteen};
-ghost use Rattle.format.specs.Reading.{bytes, word, words};
+ghost use Rattle.format.specs.Reading.{bytes, word, words, claimIn};
 use terms::Coefficient;
+use terms::Constant;
 use terms::Place;
 
 pub fn weights_from(s: &[u8], at: usize, n: usize) -> [u8; 16]
@@ -51,4 +52,24 @@ pub fn coefficients_from(s: &[u8], at: usize, n: usize) -> [i8; 16]
         row[p] = v;
     }
     row
+}
+
+// A claim's numbers: sixteen coefficients, zero beyond place n, and the constant.
+pub struct Numbers {
+    pub coefficients: [i8; 16],
+    pub constant: i16,
+}
+
+// The numbers of the claim whose record starts at a byte.
+pub fn numbers_at(s: &[u8], at: usize, n: usize) -> Numbers
+    requires { ⌜ (n ≤ 16) × (at + 4 + n ≤ length (now s)) ⌝ }
+    ensures { λ r. ⌜ r .coefficients ≡ sixteen (pos 0) (claimIn (now (s .entry)) n at .coefficients) ⌝ }
+    ensures { λ r. ⌜ r .constant ≡ claimIn (now (s .entry)) n at .constant ⌝ }
+{
+    let coefficients = coefficients_from(s, at + 2, n);
+    let c = Constant::of_bytes(s[at + 2 + n], s[at + 3 + n]);
+    Numbers {
+        coefficients,
+        constant: c.0,
+    }
 }

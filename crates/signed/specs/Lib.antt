@@ -1,3 +1,4 @@
 pub mod Parts
 pub mod Linear
 pub mod Twos
+pub mod Divide

@@ -79,7 +79,7 @@ ask-requires c κs =
     let l = length (a .queue .now) in
     let x = sound-answer (reading (a .sheet .now)) (sym (c .before .before .before .before .before .before .before .before .read .ensures) ∙ c .before .before .before .before .before .before .answer .given .1) in
     let p = passed-all (c .before .before .before .before .before .before .answer .given .0 .0) (a .i) (a .t) m l (sym (c .before .before .before .before .checked .ensures) ∙ c .before .before .enum-told2 .given .1) in
-    (record { contents = x .0; is-read = x .1; counts = x .2; some-claim = p .claim .0; most-claims = p .claim .1; some-transition = p .transition .0; most-transitions = p .transition .1 }, (p .marks-room, p .queue-room))
+    (record { known = record { contents = x .0; is-read = x .1; counts = x .2 }; some-claim = p .claim .0; most-claims = p .claim .1; some-transition = p .transition .0; most-transitions = p .transition .1 }, (p .marks-room, p .queue-room))
 
 plain-requires : tie.Need-plain-requires
 plain-requires c κs = search needs

@@ -1,0 +1,7 @@
+pub mod Remainders
+pub mod Common
+pub mod Scaled
+pub mod Rows
+pub mod Entries
+pub mod Records
+pub mod OneAnswer

@@ -1,0 +1,3 @@
+pub mod Divisors
+pub mod Multiples
+pub mod Answers

@@ -1,0 +1,139 @@
+// Reduced forms and twins: document 01, "Half spaces and verdicts".
+ghost use mathlib.Core.Path.{_≡_};
+ghost use lib.IntN.{pos};
+ghost use lib.ListN.{take};
+ghost use Rattle.nets.specs.HalfSpaces.{sixteen};
+ghost use Rattle.nets.specs.Reduced.{IsReduced};
+ghost use Rattle.format.specs.Read.{sound};
+ghost use Rattle.format.specs.Contents.{Contents, halfSpace, claim};
+ghost use Rattle.format.specs.Reading.{reading};
+ghost use Rattle.twins.specs.Divisors.{spaceOf};
+ghost use Rattle.twins.specs.Answers.{Claimed, noForm, passedTwin, IsReducedOf, IsTwinNumber, IsTwinOf};
+
+pub mod euclid; // euclid.rt: greatest common divisors
+mod multiples; // multiples.rt: a claim that is a number of times a form
+pub mod reduction; // reduction.rt: the reduced form, as numbers
+
+use multiples::is_multiple;
+use multiples::pivot_of;
+use reader::Check;
+use reader::Counts;
+use reader::Reading;
+use reader::layout::behind_claims;
+use reader::read;
+use reduction::Form;
+use reduction::reduced;
+use sheet::rows::coefficients_from;
+use terms::Claim;
+use terms::Constant;
+use terms::Place;
+use terms::Refusal;
+use terms::among;
+
+pub struct Reduced {
+    pub answer: Check,
+    pub coefficients: [i8; 16],
+    pub constant: i16,
+}
+
+// The lowest earlier claim that is a twin, or none.
+pub enum Twin {
+    First(Claim),
+    Without,
+    Refused(Refusal),
+}
+
+impl Reduced {
+    fn refused(answer: Check) -> Reduced
+        ensures { λ r. ⌜ r ≡ noForm answer ⌝ }
+    {
+        Reduced {
+            answer,
+            coefficients: [0i8; Place::MOST],
+            constant: 0,
+        }
+    }
+}
+
+impl Twin {
+    // A check passed on.
+    fn passed(check: Check) -> Twin
+        ensures { λ r. ⌜ r ≡ passedTwin check ⌝ }
+    {
+        match check {
+            Check::Fine => Twin::Without,
+            Check::Refused(r) => Twin::Refused(r),
+        }
+    }
+}
+
+// The reduced form of claim i of a sound sheet.
+fn form_at(sheet: &[u8], counts: Counts, i: usize) -> Form
+    requires { ⌜ Claimed (now sheet) counts i ⌝ }
+    ensures { λ r. ⌜ ((x : Contents) → reading (now (sheet .entry)) ≡ sound x → IsReduced (halfSpace (claim x i)) (spaceOf (counts .places) (r .coefficients) (r .constant))) × (r .coefficients ≡ sixteen (pos 0) (take (counts .places) (r .coefficients))) ⌝ }
+{
+    let n = counts.places;
+    let at = behind_claims(n, counts.transitions, i - 1);
+    let k = coefficients_from(sheet, at + 2, n);
+    let c = Constant::of_bytes(sheet[at + 2 + n], sheet[at + 3 + n]);
+    reduced(k, n, c.0)
+}
+
+// The lowest claim before claim i of a sound sheet that is its twin, or 0.
+pub fn first_twin(sheet: &[u8], counts: Counts, i: usize) -> usize
+    requires { ⌜ Claimed (now sheet) counts i ⌝ }
+    ensures { λ r. ⌜ ((x : Contents) → reading (now (sheet .entry)) ≡ sound x → IsTwinNumber x i r) ⌝ }
+{
+    let n = counts.places;
+    let form = form_at(sheet, counts, i);
+    let k = form.coefficients;
+    let pivot = pivot_of(k, n, form.constant);
+    for j in 1..i {
+        let at = behind_claims(n, counts.transitions, j - 1);
+        if is_multiple(sheet, at, n, form, pivot) {
+            return j;
+        }
+    }
+    0
+}
+
+// The reduced form of a claim.
+pub fn reduced_of(sheet: &[u8], i: Claim) -> Reduced
+    ensures { λ r. ⌜ IsReducedOf (reading (now (sheet .entry))) i r ⌝ }
+{
+    let answer = read(sheet);
+    let Reading::Sound(counts) = answer else {
+        return Reduced::refused(answer.check());
+    };
+    let there = among(i.0, counts.claims);
+    if !there {
+        return Reduced::refused(Check::Refused(Refusal::no_claim(i)));
+    }
+    let form = form_at(sheet, counts, i.0);
+    let coefficients = form.coefficients;
+    Reduced {
+        answer: Check::Fine,
+        coefficients,
+        constant: form.constant,
+    }
+}
+
+// The lowest earlier claim that is a claim's twin.
+pub fn twin_of(sheet: &[u8], i: Claim) -> Twin
+    ensures { λ r. ⌜ IsTwinOf (reading (now (sheet .entry))) i r ⌝ }
+{
+    let answer = read(sheet);
+    let Reading::Sound(counts) = answer else {
+        return Twin::passed(answer.check());
+    };
+    let there = among(i.0, counts.claims);
+    if !there {
+        return Twin::Refused(Refusal::no_claim(i));
+    }
+    let j = first_twin(sheet, counts, i.0);
+    if j == 0 {
+        Twin::Without
+    } else {
+        Twin::First(Claim(j))
+    }
+}

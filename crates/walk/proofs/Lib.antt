@@ -1,0 +1,6 @@
+pub mod Lowest
+pub mod Fires
+pub mod Order
+pub mod Asked
+pub mod Exactly
+pub mod Walks

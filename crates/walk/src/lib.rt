@@ -1,0 +1,110 @@
+// The walk: document 01, "The walk". The desk walks a net one firing at a time, and each step moves the same marking on.
+ghost use mathlib.Core.Path.{_≡_};
+ghost use Prim.Native.Nat.{_≤_};
+ghost use Rattle.format.specs.Reading.{reading};
+ghost use Rattle.walk.specs.Walk.{beginOf, firingOf, stepOf};
+ghost use Rattle.walk.specs.Weighted.{weighted};
+
+mod places; // places.rt: what a firing does to each place
+
+use places::fired;
+use places::over;
+use places::short;
+use reader::Check;
+use reader::Reading;
+use reader::layout::behind_transitions;
+use reader::read;
+use sheet::rows::weights_from;
+use sheet::start_of;
+use terms::Refusal;
+use terms::Transition;
+use terms::among;
+
+// The net's places stand first; the numbers beyond them are the lender's own.
+pub struct Marking {
+    pub tokens: [u16; 16],
+}
+
+pub struct Begun {
+    pub answer: Check,
+    pub marking: Marking,
+}
+
+pub struct Moved {
+    pub answer: Check,
+    pub marking: Marking,
+}
+
+// The sheet's start, with zeros beyond its places.
+pub fn begin(sheet: &[u8]) -> Begun
+    ensures { λ r. ⌜ r ≡ beginOf (reading (now (sheet .entry))) ⌝ }
+{
+    let start = start_of(sheet);
+    let answer = start.answer;
+    let tokens = start.tokens;
+    Begun {
+        answer,
+        marking: Marking { tokens },
+    }
+}
+
+// A firing by its weights.
+fn firing(m: Marking, taken: [u8; 16], put: [u8; 16], n: usize) -> Moved
+    requires { ⌜ n ≤ 16 ⌝ }
+    ensures { λ r. ⌜ r ≡ firingOf n (weighted n taken put) m ⌝ }
+{
+    let tokens = m.tokens;
+    let enabled = short(tokens, taken, n);
+    let Check::Fine = enabled else {
+        return Moved {
+            answer: enabled,
+            marking: m,
+        };
+    };
+    let room = over(tokens, taken, put, n);
+    let Check::Fine = room else {
+        return Moved {
+            answer: room,
+            marking: m,
+        };
+    };
+    let next = fired(tokens, taken, put, n);
+    Moved {
+        answer: Check::Fine,
+        marking: Marking { tokens: next },
+    }
+}
+
+// The step by value: the marking as it is afterwards, and as it was where the step is refused.
+pub fn step_from(m: Marking, sheet: &[u8], t: Transition) -> Moved
+    ensures { λ r. ⌜ r ≡ stepOf (reading (now (sheet .entry))) t m ⌝ }
+{
+    let answer = read(sheet);
+    let Reading::Sound(counts) = answer else {
+        return Moved {
+            answer: answer.check(),
+            marking: m,
+        };
+    };
+    let there = among(t.0, counts.transitions);
+    if !there {
+        return Moved {
+            answer: Check::Refused(Refusal::no_transition(t)),
+            marking: m,
+        };
+    }
+    let n = counts.places;
+    let at = behind_transitions(n, t.0 - 1);
+    let taken = weights_from(sheet, at + 2, n);
+    let put = weights_from(sheet, at + 2 + n, n);
+    firing(m, taken, put, n)
+}
+
+// The step of a walk: the marking is lent, and moved on.
+pub fn step(m: &mut Marking, sheet: &[u8], t: Transition) -> Check
+    ensures { λ r. ⌜ (r ≡ stepOf (reading (now (sheet .entry))) t (now (m .entry)) .answer) × (now (m .exit) ≡ stepOf (reading (now (sheet .entry))) t (now (m .entry)) .marking) ⌝ }
+{
+    let s = step_from(*m, sheet, t);
+    *m = s.marking;
+    s.answer
+}
