@@ -1,18 +1,16 @@
-// judge: reads one sheet from standard input and prints its listing (document 01, "The listing"): today a refusal, or the
-// line of counts.
+// judge: reads one sheet from standard input and prints its listing (document 01, "The listing").
 ghost use mathlib.Core.Path.{_≡_};
 ghost use mathlib.Core.List.{List};
 ghost use Prim.Native.Nat.{ℕ, _≤_};
 ghost use lib.ListN.{length, take};
 ghost use Rattle.format.specs.Reading.{reading};
-ghost use Rattle.reader.specs.Answers.{answerOf};
+ghost use Rattle.listing.specs.Listed.{IsListed};
 ghost use Rattle.judge.specs.Input.{Within};
 use libc::STDERR_FILENO;
 use libc::STDIN_FILENO;
-use libc::STDOUT_FILENO;
-use reader::Counts;
-use reader::Reading;
-use terms::Refusal;
+use listing::Listed;
+use listing::listing_of;
+use printing::print;
 
 // How much was taken in, at the start of the room that was lent.
 enum Input {
@@ -39,42 +37,25 @@ fn take_in(room: &mut [u8]) -> Input
     Input::Kept(done)
 }
 
-// The answer for every input that begins with what was kept: a sheet's answer depends on its first 2,891 bytes alone.
-fn answer(kept: &[u8]) -> Reading
-    ensures { λ r. ⌜ ((s : List ℕ) → take 4096 s ≡ now (kept .entry) → r ≡ answerOf (reading s)) ⌝ }
+// The listing for every input that begins with what was kept: a sheet's listing depends on its first 2,891 bytes alone.
+fn listing(kept: &[u8], marks: &mut [u8], queue: &mut [u16], text: &mut [u8]) -> Listed
+    ensures { λ r. ⌜ ((s : List ℕ) → take 4096 s ≡ now (kept .entry) → IsListed (reading s) (length (now (marks .entry))) (length (now (queue .entry))) (now (text .entry)) (now (text .exit)) r) ⌝ }
 {
-    reader::read(kept)
+    listing_of(kept, marks, queue, text)
 }
 
-fn print_refusal(r: Refusal) {
-    io::write_all(STDOUT_FILENO, b"refused ");
-    io::print_decimal(STDOUT_FILENO, r.number as u64);
-    io::write_all(STDOUT_FILENO, b" at ");
-    io::print_decimal(STDOUT_FILENO, r.value() as u64);
-    io::write_all(STDOUT_FILENO, b"\n");
-}
-
-fn print_counts(counts: Counts) {
-    io::write_all(STDOUT_FILENO, b"places ");
-    io::print_decimal(STDOUT_FILENO, counts.places as u64);
-    io::write_all(STDOUT_FILENO, b" transitions ");
-    io::print_decimal(STDOUT_FILENO, counts.transitions as u64);
-    io::write_all(STDOUT_FILENO, b" claims ");
-    io::print_decimal(STDOUT_FILENO, counts.claims as u64);
-    io::write_all(STDOUT_FILENO, b"\n");
-}
-
-fn print_answer(kept: &[u8]) {
-    match answer(kept) {
-        Reading::Malformed(r) => print_refusal(r),
-        Reading::Sound(counts) => print_counts(counts),
-    }
+fn show(kept: &[u8]) {
+    let mut marks = [0u8; 20000];
+    let mut queue = [0u16; 20000];
+    let mut text = io::buffer();
+    let answer = listing(kept, &mut marks, &mut queue, &mut text);
+    print(answer, &mut text);
 }
 
 fn main() {
     let mut room = io::buffer();
     match take_in(&mut room) {
-        Input::Kept(n) => print_answer(&room[..n]),
+        Input::Kept(n) => show(&room[..n]),
         Input::Failed => {
             io::write_all(
                 STDERR_FILENO,

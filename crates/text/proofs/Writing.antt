@@ -1,9 +1,9 @@
 -- Pieces written one behind the other are the pieces joined.
-use mathlib.Core.Path.{_≡_, refl, sym, ap, _∙_}
+use mathlib.Core.Path.{_≡_, refl, sym, ap, ap₂, _∙_}
 use mathlib.Core.List.{List, [], _∷_, _++_, append-assoc, append-nil}
 use Prim.Native.Nat.{ℕ, suc, _+_, _-_, _≤_, _<_}
 use native.Mathlib.Omega.{arith}
-use lib.ListN.{length, take, drop, set, length-append}
+use lib.ListN.{length, take, drop, set, length-append, take-append-drop}
 use lib.Seq.{drop-drop, take-suc-set, drop-set-lt}
 use Rattle.text.specs.Bytes.{Wrote}
 
@@ -28,3 +28,10 @@ pub wrote-one : (old : List ℕ) (at v : ℕ) → at < length old → Wrote (v �
 wrote-one old at v l =
     let k : at + 1 ≡ suc at = omega arith in
     record { ends = refl; is = ap (λ (j : ℕ). take j (set old at v)) k ∙ take-suc-set old at v l; behind = drop-set-lt (at + 1) old at v (omega arith) }
+
+-- a text that was written from the start on: its length, and what stands behind it
+pub length-written : (bs old new : List ℕ) (end : ℕ) → Wrote bs old 0 new end → end ≡ length bs
+length-written bs old new end w = omega (arith, w .ends)
+
+pub whole : (bs old new : List ℕ) (end : ℕ) → Wrote bs old 0 new end → new ≡ bs ++ drop (length bs) old
+whole bs old new end w = sym (take-append-drop end new) ∙ ap₂ (λ (a b : List ℕ). a ++ b) (w .is) (w .behind ∙ ap (λ (n : ℕ). drop n old) (length-written bs old new end w))

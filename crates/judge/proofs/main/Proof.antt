@@ -27,11 +27,11 @@ enum-known-n c = search needs
 array-share-prefix-room : tie.Need-array-share-prefix-room
 array-share-prefix-room c = within c
 
-slice-aggregate-print-answer : tie.Need-slice-aggregate-print-answer
-slice-aggregate-print-answer c = sym (length-take-le (c .before .before .n .given .0 .0) (c .before .before .before .before .before .take-in .last .0) (within (c .before)))
+slice-aggregate-show : tie.Need-slice-aggregate-show
+slice-aggregate-show c = sym (length-take-le (c .before .before .n .given .0 .0) (c .before .before .before .before .before .take-in .last .0) (within (c .before)))
 
-print-answer-requires : tie.Need-print-answer-requires
-print-answer-requires c κs = search needs
+show-requires : tie.Need-show-requires
+show-requires c κs = search needs
 
 enum-told : tie.Need-enum-told
 enum-told c = search needs
@@ -57,8 +57,8 @@ main-spec =
     take-in-requires
     enum-known-n
     array-share-prefix-room
-    slice-aggregate-print-answer
-    print-answer-requires
+    slice-aggregate-show
+    show-requires
     enum-told
     slice-aggregate-write-all
     write-all-requires

@@ -1,0 +1,63 @@
+-- The listing's lines: document 01, "The listing". Fields are parted by one space, and each line ends with one newline byte.
+use mathlib.Core.List.{List, [], _∷_, _++_}
+use Prim.Native.Nat.{ℕ, zero, suc, _<_}
+use Rattle.terms.specs.Refusals.{detailOf}
+use Rattle.terms.specs.declared.Refusal.{Refusal}
+use Rattle.nets.specs.Verdicts.{Verdict, start-outside, target-inside, broken, proof}
+use Rattle.text.specs.Bytes.{chars, decimal}
+use Rattle.verdicts.specs.declared.Answer.{Answer}
+use Rattle.verdicts.specs.declared.Answer.the-variants as answers
+
+abbrev pub newline : List ℕ
+newline = 10 ∷ []
+
+-- a refusal's number and detail
+abbrev pub refusedLine : ℕ → ℕ → List ℕ
+refusedLine number detail = (chars "refused " ++ decimal number) ++ (chars " at " ++ decimal detail) ++ newline
+
+abbrev pub refusalLine : Refusal → List ℕ
+refusalLine r = refusedLine (r .number) (detailOf (r .detail))
+
+-- the counts: places, transitions, claims
+abbrev pub countsLine : ℕ → ℕ → ℕ → List ℕ
+countsLine n T claims = (chars "places " ++ decimal n) ++ (chars " transitions " ++ decimal T) ++ (chars " claims " ++ decimal claims) ++ newline
+
+-- the tokens of a marking, each behind a space
+unfoldable pub tokensText : List ℕ → List ℕ
+tokensText [] = []
+tokensText (m ∷ ms) = (chars " " ++ decimal m) ++ tokensText ms
+
+-- the lowest earlier twin; 0 where there is none
+abbrev pub twinText : ℕ → List ℕ
+twinText zero = []
+twinText (suc j) = chars " twin " ++ decimal (suc j)
+
+-- the verdict: broken with the transition and the tokens of the bad marking
+abbrev pub verdictText : Verdict → List ℕ
+verdictText start-outside = chars "start-outside"
+verdictText target-inside = chars "target-inside"
+verdictText (broken t m) = (chars "broken " ++ decimal t) ++ tokensText m
+verdictText proof = chars "proof"
+
+-- a claim's line: its number, the verdict, the lowest earlier twin
+abbrev pub claimLine : ℕ → Verdict → ℕ → List ℕ
+claimLine i v j = (chars "claim " ++ decimal i) ++ chars " " ++ verdictText v ++ twinText j ++ newline
+
+-- the same for the answer of a call and the tokens that it holds
+abbrev pub answerText : Answer → List ℕ → List ℕ
+answerText answers.StartOutside m = chars "start-outside"
+answerText answers.TargetInside m = chars "target-inside"
+answerText (answers.Broken t) m = (chars "broken " ++ decimal (t .0)) ++ tokensText m
+answerText answers.Proof m = chars "proof"
+answerText (answers.Refused r) m = []
+
+abbrev pub answerLine : ℕ → Answer → List ℕ → ℕ → List ℕ
+answerLine i a m j = (chars "claim " ++ decimal i) ++ chars " " ++ answerText a m ++ twinText j ++ newline
+
+-- a transition number of at most two digits
+abbrev pub Brief : Answer → Type 0
+Brief answers.StartOutside = Unit {0}
+Brief answers.TargetInside = Unit {0}
+Brief (answers.Broken t) = t .0 < 100
+Brief answers.Proof = Unit {0}
+Brief (answers.Refused r) = Unit {0}

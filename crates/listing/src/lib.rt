@@ -1,0 +1,156 @@
+// The listing of a sheet: document 01, "The listing".
+ghost use mathlib.Core.Path.{_≡_};
+ghost use mathlib.Core.List.{List};
+ghost use Prim.Native.Nat.{ℕ, _+_, _≤_};
+ghost use lib.ListN.{length};
+ghost use Rattle.format.specs.Read.{sound};
+ghost use Rattle.format.specs.Contents.{Contents};
+ghost use Rattle.format.specs.Reading.{reading};
+ghost use Rattle.sheet.specs.Known.{Known};
+ghost use Rattle.search.specs.Searched.{Wiped};
+ghost use Rattle.pairs.specs.Pairs.{areaAfter};
+ghost use Rattle.text.specs.Bytes.{Wrote};
+ghost use Rattle.listing.specs.Listed.{IsLine, IsListing, IsListed, IsRefusalText, roomCheck, listingCheck, passedListed};
+
+mod lines; // lines.rt: the lines of a listing
+
+use lines::claim_line;
+use lines::counts_line;
+use lines::refusal_line;
+use reader::Check;
+use reader::Counts;
+use reader::Reading;
+use reader::read;
+use search::areas::wipe;
+use terms::Area;
+use terms::Refusal;
+use terms::Text;
+use twins::first_twin;
+use verdicts::space::judge_claim;
+
+// How long the text is, or a refusal.
+pub enum Listed {
+    Written(usize),
+    Refused(Refusal),
+}
+
+impl Listed {
+    // A check passed on.
+    fn passed(check: Check) -> Listed
+        ensures { λ r. ⌜ r ≡ passedListed check ⌝ }
+    {
+        match check {
+            Check::Fine => Listed::Written(0),
+            Check::Refused(r) => Listed::Refused(r),
+        }
+    }
+}
+
+// The refusals in their order, behind the sheet's.
+fn checked(marks: usize, queue: usize, room: usize) -> Check
+    ensures { λ r. ⌜ r ≡ roomCheck marks queue room ⌝ }
+{
+    if !Area::fit(marks, queue) {
+        return Check::Refused(Refusal::small_area());
+    }
+    if room < Text::SIZE {
+        return Check::Refused(Refusal::small_text());
+    }
+    Check::Fine
+}
+
+// The line of claim i of a sheet that was read.
+fn line(
+    sheet: &[u8],
+    counts: Counts,
+    i: usize,
+    marks: &mut [u8],
+    queue: &mut [u16],
+    text: &mut [u8],
+    at: usize,
+) -> usize
+    requires { ⌜ Known (now sheet) counts × (1 ≤ i) × (i ≤ counts .claims) ⌝ }
+    requires { ⌜ (length (now marks) ≡ 20000) × (length (now queue) ≡ 20000) × (at + 125 ≤ length (now text)) ⌝ }
+    ensures { λ r. ⌜ ((x : Contents) → reading (now (sheet .entry)) ≡ sound x → (bs : List ℕ) × IsLine x i bs × Wrote bs (now (text .entry)) at (now (text .exit)) r) ⌝ }
+    ensures { λ r. ⌜ r ≤ at + 125 ⌝ }
+{
+    let judged = judge_claim(sheet, counts, i, marks, queue);
+    let j = first_twin(sheet, counts, i);
+    claim_line(text, at, i, judged, j, counts.places)
+}
+
+// The line of counts, and each claim's.
+fn all_lines(
+    sheet: &[u8],
+    counts: Counts,
+    marks: &mut [u8],
+    queue: &mut [u16],
+    text: &mut [u8],
+) -> usize
+    requires { ⌜ Known (now sheet) counts ⌝ }
+    requires { ⌜ (length (now marks) ≡ 20000) × (length (now queue) ≡ 20000) × (4096 ≤ length (now text)) ⌝ }
+    ensures { λ r. ⌜ ((x : Contents) → reading (now (sheet .entry)) ≡ sound x → (bs : List ℕ) × IsListing x bs × Wrote bs (now (text .entry)) 0 (now (text .exit)) r) ⌝ }
+{
+    let mut end = counts_line(text, 0, counts);
+    let mut i = 0;
+    while i < counts.claims {
+        i += 1;
+        end = line(sheet, counts, i, marks, queue, text, end);
+    }
+    end
+}
+
+// The same in areas that may be longer, and that are wiped afterwards.
+fn written(
+    sheet: &[u8],
+    counts: Counts,
+    marks: &mut [u8],
+    queue: &mut [u16],
+    text: &mut [u8],
+) -> usize
+    requires { ⌜ Known (now sheet) counts ⌝ }
+    requires { ⌜ (20000 ≤ length (now marks)) × (20000 ≤ length (now queue)) × (4096 ≤ length (now text)) ⌝ }
+    ensures { λ r. ⌜ ((x : Contents) → reading (now (sheet .entry)) ≡ sound x → (bs : List ℕ) × IsListing x bs × Wrote bs (now (text .entry)) 0 (now (text .exit)) r) ⌝ }
+    ensures { λ _. ⌜ Wiped 20000 (now (marks .entry)) (now (marks .exit)) × Wiped 20000 (now (queue .entry)) (now (queue .exit)) ⌝ }
+{
+    let end = all_lines(
+        sheet,
+        counts,
+        &mut marks[..Area::SIZE],
+        &mut queue[..Area::SIZE],
+        text,
+    );
+    wipe(marks, queue);
+    end
+}
+
+// The listing of a sound sheet, at the start of the text. The sheet is read once.
+pub fn listing_of(sheet: &[u8], marks: &mut [u8], queue: &mut [u16], text: &mut [u8]) -> Listed
+    ensures { λ r. ⌜ IsListed (reading (now (sheet .entry))) (length (now (marks .entry))) (length (now (queue .entry))) (now (text .entry)) (now (text .exit)) r ⌝ }
+    ensures { λ _. ⌜ now (marks .exit) ≡ areaAfter (listingCheck (reading (now (sheet .entry))) (length (now (marks .entry))) (length (now (queue .entry))) (length (now (text .entry)))) (now (marks .entry)) ⌝ }
+    ensures { λ _. ⌜ now (queue .exit) ≡ areaAfter (listingCheck (reading (now (sheet .entry))) (length (now (marks .entry))) (length (now (queue .entry))) (length (now (text .entry)))) (now (queue .entry)) ⌝ }
+{
+    let answer = read(sheet);
+    let Reading::Sound(counts) = answer else {
+        return Listed::passed(answer.check());
+    };
+    let check = checked(marks.len(), queue.len(), text.len());
+    let Check::Fine = check else {
+        return Listed::passed(check);
+    };
+    let end = written(sheet, counts, marks, queue, text);
+    Listed::Written(end)
+}
+
+// The line of a refusal, at the start of the text.
+pub fn refusal_text(r: Refusal, text: &mut [u8]) -> Listed
+    ensures { λ e. ⌜ IsRefusalText r (now (text .entry)) (now (text .exit)) e ⌝ }
+{
+    if text.len() < Text::SIZE {
+        return Listed::Refused(Refusal::small_text());
+    }
+    let number = r.number;
+    let detail = r.value();
+    let end = refusal_line(text, 0, number, detail);
+    Listed::Written(end)
+}

@@ -1,0 +1,72 @@
+-- `next_sheet` is safe: the sheet's length lies within the room.
+use mathlib.Core.Path.{sym}
+use native.Mathlib.Omega.{arith}
+use lib.Seq.{length-take-le}
+use borrow.Author.Needs.{needs}
+use Rattle.listings.proofs.next_sheet.Statement.{statement}
+use Rattle.listings.proofs.next_sheet.Tie as tie
+
+slice-aggregate-read-full : tie.Need-slice-aggregate-read-full
+slice-aggregate-read-full c = search needs
+
+read-full-requires : tie.Need-read-full-requires
+read-full-requires c κs = search needs
+
+returns : tie.Need-returns
+returns c = search needs
+
+array-read-two-bytes : tie.Need-array-read-two-bytes
+array-read-two-bytes c = search needs
+
+array-read-two-bytes-2 : tie.Need-array-read-two-bytes-2
+array-read-two-bytes-2 c = search needs
+
+two-bytes-requires : tie.Need-two-bytes-requires
+two-bytes-requires c κs = search needs
+
+returns-2 : tie.Need-returns-2
+returns-2 c = search needs
+
+slice-relend-prefix-take-in : tie.Need-slice-relend-prefix-take-in
+slice-relend-prefix-take-in c = search needs
+
+slice-aggregate-take-in : tie.Need-slice-aggregate-take-in
+slice-aggregate-take-in c = sym (length-take-le (c .before .before .two-bytes .result) (c .before .before .before .before .before .before .before .before .before .before .before .args .room .now) (omega arith))
+
+take-in-requires : tie.Need-take-in-requires
+take-in-requires c κs = search needs
+
+same-length : tie.Need-same-length
+same-length c = search needs
+
+same-length-2 : tie.Need-same-length-2
+same-length-2 c = search needs
+
+same-length-3 : tie.Need-same-length-3
+same-length-3 c = search needs
+
+same-length-4 : tie.Need-same-length-4
+same-length-4 c = search needs
+
+returns-3 : tie.Need-returns-3
+returns-3 c = search needs
+
+pub next-sheet-spec : {M : Type 1} → statement M
+next-sheet-spec =
+    tie.close
+    (tie.spec
+    slice-aggregate-read-full
+    read-full-requires
+    returns
+    array-read-two-bytes
+    array-read-two-bytes-2
+    two-bytes-requires
+    returns-2
+    slice-relend-prefix-take-in
+    slice-aggregate-take-in
+    take-in-requires
+    same-length
+    same-length-2
+    same-length-3
+    same-length-4
+    returns-3)

@@ -1,0 +1,52 @@
+// listings: for the tests. Standard input has many sheets, each behind its length (two bytes, the low one first). Each is listed as
+// judge lists it, with a line of a dot behind it.
+use listing::listing_of;
+use printing::print;
+
+const STDIN: i32 = 0;
+
+const STDOUT: i32 = 1;
+
+// Two bytes, the low one first.
+fn two_bytes(lo: u8, hi: u8) -> usize {
+    (lo as usize) + 256 * (hi as usize)
+}
+
+fn list(sheet: &[u8], marks: &mut [u8], queue: &mut [u16], text: &mut [u8]) {
+    let answer = listing_of(sheet, marks, queue, text);
+    print(answer, text);
+    io::write_all(STDOUT, b".\n");
+}
+
+// Reads the sheet into the room and lists it.
+fn take_in(room: &mut [u8], marks: &mut [u8], queue: &mut [u16], text: &mut [u8]) {
+    let n = io::read_full(STDIN, room);
+    list(&room[..n], marks, queue, text);
+}
+
+// Lists one sheet, and says whether there was one.
+fn next_sheet(room: &mut [u8], marks: &mut [u8], queue: &mut [u16], text: &mut [u8]) -> bool {
+    let mut head = [0u8; 2];
+    let came = io::read_full(STDIN, &mut head);
+    if came < 2 {
+        return false;
+    }
+    let length = two_bytes(head[0], head[1]);
+    if room.len() < length {
+        return false;
+    }
+    take_in(&mut room[..length], marks, queue, text);
+    true
+}
+
+// A proved loop has to end, so it counts its turns down from a number that no run uses up.
+fn main() {
+    let mut room = io::large_buffer();
+    let mut text = io::buffer();
+    let mut marks = [0u8; 20000];
+    let mut queue = [0u16; 20000];
+    let mut turns = u64::MAX;
+    while turns > 0 && next_sheet(&mut room, &mut marks, &mut queue, &mut text) {
+        turns -= 1;
+    }
+}
