@@ -1,0 +1,242 @@
+// plain_pair: answers the framed questions of the program `questions` by the same method as crates/pairs and crates/search:
+// a breadth-first search over values, in a table that just holds the window of Theorem 1 and one step on either side.
+// As there, the areas are filled before each question and looked through afterwards.
+#include "plain_sheet.h"
+
+enum {
+    MOST_LENT = AREA_SIZE + 8,
+    MOST_FRAMED = 65535, // bytes of a sheet
+    FILLING_OF_MARKS = 7,
+    FILLING_OF_QUEUE = 7000,
+};
+
+struct question {
+    size_t claim, transition, marks, queue;
+    const uint8_t *bytes;
+    size_t length;
+};
+
+struct answer {
+    struct refusal refusal;
+    bool broken;
+    uint16_t marking[MOST_PLACES];
+};
+
+// Positions of the table: those of 0 and of the window's ends, and how many there are.
+struct table {
+    int start, lo, hi, size;
+};
+
+static uint8_t marks[MOST_LENT];
+static uint16_t queue[MOST_LENT];
+
+// The search.
+
+static int larger(int a, int b)
+{
+    return a < b ? b : a;
+}
+
+static int longest(const int8_t k[], size_t n)
+{
+    int most = 0;
+    for (size_t p = 0; p < n; p++)
+        most = larger(most, larger(k[p], -k[p]));
+    return most;
+}
+
+// The table for a window from lo to hi and steps of at most m.
+static struct table placed(int lo, int hi, int m)
+{
+    int start = larger(larger(0, -lo), m - hi);
+    return (struct table){start, start + lo, start + hi, larger(start + 1, start + lo + m)};
+}
+
+// The first position in the window, in breadth-first order, or -1.
+static int reach_window(const int8_t k[], size_t n, struct table table)
+{
+    marks[table.start] = UINT8_MAX;
+    queue[0] = (uint16_t)table.start;
+    size_t tail = 1;
+    for (size_t head = 0; head < tail; head++) {
+        int v = queue[head];
+        if (table.lo <= v && v <= table.hi)
+            return v;
+        for (size_t p = 0; p < n; p++) {
+            int w = v + k[p];
+            if (w < 0 || w >= table.size || marks[w] != 0)
+                continue;
+            marks[w] = (uint8_t)(p + 1);
+            queue[tail++] = (uint16_t)w;
+        }
+    }
+    return -1;
+}
+
+// Whether some x has a value from lo to hi, and the x of least total, which is added to the marking.
+static bool find(const int8_t k[], size_t n, int lo, int hi, uint16_t marking[])
+{
+    if (hi < lo)
+        return false;
+    struct table table = placed(lo, hi, longest(k, n));
+    memset(marks, 0, (size_t)table.size);
+    int v = reach_window(k, n, table);
+    if (v < 0)
+        return false;
+    while (v != table.start) {
+        int p = marks[v] - 1;
+        marking[p]++;
+        v -= k[p];
+    }
+    return true;
+}
+
+// The pair question.
+
+static int value_of(const int8_t k[], const uint8_t weights[], size_t n)
+{
+    int sum = 0;
+    for (size_t p = 0; p < n; p++)
+        sum += k[p] * weights[p];
+    return sum;
+}
+
+static size_t claim_at(struct counts counts, size_t index)
+{
+    size_t n = counts.places;
+    return transition_at(counts, counts.transitions) + (2 + 2 * n) + (3 + 2 * n) + index * (4 + n);
+}
+
+static void ask_in(const struct question *q, struct counts counts, struct answer *answer)
+{
+    size_t n = counts.places;
+    const uint8_t *claim = q->bytes + claim_at(counts, q->claim - 1) + 2;
+    const uint8_t *taken = q->bytes + transition_at(counts, q->transition - 1) + 2;
+    int8_t k[MOST_PLACES];
+    uint16_t marking[MOST_PLACES] = {0};
+    for (size_t p = 0; p < n; p++) {
+        k[p] = (int8_t)signed_byte(claim[p]);
+        marking[p] = taken[p];
+    }
+    int c = signed_word(claim + n);
+    answer->broken = find(k, n, c - value_of(k, taken, n), c - value_of(k, taken + n, n) - 1, marking);
+    if (answer->broken)
+        memcpy(answer->marking, marking, sizeof marking);
+    memset(marks, 0, AREA_SIZE * sizeof marks[0]);
+    memset(queue, 0, AREA_SIZE * sizeof queue[0]);
+}
+
+static bool refused(const struct question *q, struct reader *reader, struct counts *counts)
+{
+    if (!read_sheet(reader, counts))
+        return true;
+    if (q->claim < 1 || q->claim > counts->claims)
+        return !refuse(reader, 11, q->claim);
+    if (q->transition < 1 || q->transition > counts->transitions)
+        return !refuse(reader, 12, q->transition);
+    if (q->marks < AREA_SIZE || q->queue < AREA_SIZE)
+        return !refuse(reader, 13, 0);
+    return false;
+}
+
+static struct answer ask(const struct question *q)
+{
+    struct answer answer = {.refusal = {0}};
+    struct reader reader = {.bytes = q->bytes, .length = q->length};
+    struct counts counts;
+    if (refused(q, &reader, &counts))
+        answer.refusal = reader.refusal;
+    else
+        ask_in(q, counts, &answer);
+    return answer;
+}
+
+// What is left in the areas.
+
+static const char *told(size_t zeros, bool rest)
+{
+    if (!rest || (zeros != 0 && zeros != AREA_SIZE))
+        return " dirty";
+    return zeros == 0 ? " kept" : " zero";
+}
+
+static const char *left_in_marks(size_t size)
+{
+    size_t zeros = 0;
+    while (zeros < size && marks[zeros] == 0)
+        zeros++;
+    size_t i = zeros;
+    while (i < size && marks[i] == FILLING_OF_MARKS)
+        i++;
+    return told(zeros, i == size);
+}
+
+static const char *left_in_queue(size_t size)
+{
+    size_t zeros = 0;
+    while (zeros < size && queue[zeros] == 0)
+        zeros++;
+    size_t i = zeros;
+    while (i < size && queue[i] == FILLING_OF_QUEUE)
+        i++;
+    return told(zeros, i == size);
+}
+
+// The program.
+
+static void fill_areas(const struct question *q)
+{
+    memset(marks, FILLING_OF_MARKS, q->marks);
+    for (size_t i = 0; i < q->queue; i++)
+        queue[i] = FILLING_OF_QUEUE;
+}
+
+static bool show(const struct question *q, const struct answer *answer)
+{
+    struct text text;
+    text.length = 0;
+    if (answer->refusal.number != 0)
+        put_refusal(&text, answer->refusal);
+    else
+        put_words(&text, answer->broken ? "broken" : "kept");
+    put_words(&text, " marking");
+    for (size_t p = 0; p < MOST_PLACES; p++)
+        put_labelled(&text, " ", answer->marking[p]);
+    put_words(&text, " areas");
+    put_words(&text, left_in_marks(q->marks));
+    put_words(&text, left_in_queue(q->queue));
+    put_words(&text, "\n");
+    return write_out(&text);
+}
+
+static void take_sizes(struct question *q, uint8_t kind)
+{
+    static const size_t sizes[][2] = {{20000, 20000}, {19999, 20000}, {20000, 19999}, {20008, 20008}, {0, 0}};
+    const size_t *both = sizes[kind < sizeof sizes / sizeof sizes[0] ? kind : 0];
+    q->marks = both[0];
+    q->queue = both[1];
+}
+
+// Answers one question, and says whether there was one.
+static bool next_question(void)
+{
+    static uint8_t room[MOST_FRAMED];
+    uint8_t head[7];
+    if (take_in(head, sizeof head) < sizeof head)
+        return false;
+    struct question q = {.bytes = room};
+    q.claim = (size_t)(head[0] + 256 * head[1]);
+    q.transition = (size_t)(head[2] + 256 * head[3]);
+    take_sizes(&q, head[4]);
+    q.length = take_in(room, (size_t)(head[5] + 256 * head[6]));
+    fill_areas(&q);
+    struct answer answer = ask(&q);
+    return show(&q, &answer);
+}
+
+int main(void)
+{
+    while (next_question())
+        ;
+    return 0;
+}

@@ -1,0 +1,227 @@
+// What both plain programs share: a sheet that is checked once (document 01), and lines of text.
+// It stands in a header so that the compiler sees a whole program at once, as it does for Rattle.
+#ifndef PLAIN_SHEET_H
+#define PLAIN_SHEET_H
+
+#include <stdbool.h>
+#include <stddef.h>
+#include <stdint.h>
+#include <string.h>
+#include <unistd.h>
+
+enum {
+    MOST_PLACES = 16,
+    MOST_TRANSITIONS = 64,
+    MOST_CLAIMS = 32,
+    MOST_WEIGHT = 9,
+    MOST_KIND = 1,
+    MOST_COEFFICIENT = 100,
+    MOST_CONSTANT = 5000,
+    AREA_SIZE = 20000,
+    MOST_KEPT = 4096, // bytes of the input that are kept: the answer depends on the first 2,891 alone
+};
+
+struct refusal {
+    int number; // 0 where nothing is refused
+    size_t detail;
+};
+
+struct counts {
+    size_t places, transitions, claims;
+};
+
+// A sheet while it is read: `at` is the first byte of the record at hand.
+struct reader {
+    const uint8_t *bytes;
+    size_t length, at;
+    struct refusal refusal;
+};
+
+static bool refuse(struct reader *r, int number, size_t detail)
+{
+    r->refusal = (struct refusal){number, detail};
+    return false;
+}
+
+static bool marked(struct reader *r, char first, char second)
+{
+    if (r->length - r->at < 2)
+        return refuse(r, 1, r->at);
+    if (r->bytes[r->at] != (uint8_t)first || r->bytes[r->at + 1] != (uint8_t)second)
+        return refuse(r, 2, r->at);
+    return true;
+}
+
+static bool whole(struct reader *r, size_t size)
+{
+    return r->length - r->at >= size || refuse(r, 1, r->at);
+}
+
+static bool read_head(struct reader *r, struct counts *counts)
+{
+    if (!marked(r, 'N', 'P') || !whole(r, 4))
+        return false;
+    counts->places = r->bytes[2];
+    counts->transitions = r->bytes[3];
+    if (counts->places < 1 || counts->places > MOST_PLACES)
+        return refuse(r, 3, 2);
+    if (counts->transitions > MOST_TRANSITIONS)
+        return refuse(r, 3, 3);
+    r->at = 4;
+    return true;
+}
+
+static bool read_transition(struct reader *r, size_t n)
+{
+    if (!marked(r, 'T', 'R') || !whole(r, 2 + 2 * n))
+        return false;
+    const uint8_t *weights = r->bytes + r->at + 2;
+    for (size_t i = 0; i < 2 * n; i++)
+        if (weights[i] > MOST_WEIGHT)
+            return refuse(r, 4, r->at + 2 + i);
+    r->at += 2 + 2 * n;
+    return true;
+}
+
+static bool read_start(struct reader *r, size_t n)
+{
+    if (!marked(r, 'M', 'K') || !whole(r, 2 + 2 * n))
+        return false;
+    r->at += 2 + 2 * n;
+    return true;
+}
+
+static bool read_target(struct reader *r, size_t n)
+{
+    if (!marked(r, 'T', 'G') || !whole(r, 3 + 2 * n))
+        return false;
+    if (r->bytes[r->at + 2] > MOST_KIND)
+        return refuse(r, 5, r->at + 2);
+    r->at += 3 + 2 * n;
+    return true;
+}
+
+static int signed_byte(uint8_t byte)
+{
+    return byte < 128 ? byte : byte - 256;
+}
+
+static int signed_word(const uint8_t *bytes)
+{
+    int word = bytes[0] + 256 * bytes[1];
+    return word < 32768 ? word : word - 65536;
+}
+
+static bool read_claim(struct reader *r, size_t n, size_t before)
+{
+    if (!marked(r, 'H', 'S'))
+        return false;
+    if (before == MOST_CLAIMS)
+        return refuse(r, 8, r->at);
+    if (!whole(r, 4 + n))
+        return false;
+    size_t from = r->at + 2;
+    for (size_t at = from; at < from + n; at++) {
+        int k = signed_byte(r->bytes[at]);
+        if (k < -MOST_COEFFICIENT || k > MOST_COEFFICIENT)
+            return refuse(r, 6, at);
+    }
+    int c = signed_word(r->bytes + from + n);
+    if (c < -MOST_CONSTANT || c > MOST_CONSTANT)
+        return refuse(r, 7, from + n);
+    r->at += 4 + n;
+    return true;
+}
+
+static bool read_claims(struct reader *r, struct counts *counts)
+{
+    if (r->at == r->length)
+        return refuse(r, 9, r->length);
+    counts->claims = 0;
+    while (r->at < r->length) {
+        if (!read_claim(r, counts->places, counts->claims))
+            return false;
+        counts->claims++;
+    }
+    return true;
+}
+
+// Reads the sheet, left to right and once.
+static bool read_sheet(struct reader *r, struct counts *counts)
+{
+    if (!read_head(r, counts))
+        return false;
+    for (size_t t = 0; t < counts->transitions; t++)
+        if (!read_transition(r, counts->places))
+            return false;
+    return read_start(r, counts->places) && read_target(r, counts->places) && read_claims(r, counts);
+}
+
+static size_t transition_at(struct counts counts, size_t index)
+{
+    return 4 + index * (2 + 2 * counts.places);
+}
+
+// Text, piece behind piece. A line of a listing has at most 132 bytes, a line of answers at most 136.
+struct text {
+    size_t length;
+    char bytes[136 * (MOST_CLAIMS + 1)];
+};
+
+static void put_words(struct text *text, const char *words)
+{
+    size_t length = strlen(words);
+    memcpy(text->bytes + text->length, words, length);
+    text->length += length;
+}
+
+static void put_number(struct text *text, size_t number)
+{
+    char digits[20];
+    size_t first = sizeof digits;
+    do {
+        digits[--first] = (char)('0' + number % 10);
+        number /= 10;
+    } while (number > 0);
+    memcpy(text->bytes + text->length, digits + first, sizeof digits - first);
+    text->length += sizeof digits - first;
+}
+
+static void put_labelled(struct text *text, const char *words, size_t number)
+{
+    put_words(text, words);
+    put_number(text, number);
+}
+
+static void put_refusal(struct text *text, struct refusal refusal)
+{
+    put_labelled(text, "refused ", (size_t)refusal.number);
+    put_labelled(text, " at ", refusal.detail);
+}
+
+// Standard input until it ends or the room is full.
+static size_t take_in(uint8_t *room, size_t size)
+{
+    size_t done = 0;
+    while (done < size) {
+        ssize_t more = read(STDIN_FILENO, room + done, size - done);
+        if (more <= 0)
+            break;
+        done += (size_t)more;
+    }
+    return done;
+}
+
+static bool write_out(const struct text *text)
+{
+    size_t done = 0;
+    while (done < text->length) {
+        ssize_t more = write(STDOUT_FILENO, text->bytes + done, text->length - done);
+        if (more <= 0)
+            return false;
+        done += (size_t)more;
+    }
+    return true;
+}
+
+#endif
