@@ -2,8 +2,8 @@
 
     python3 tests/run_tests.py
 
-The programs `judge`, `answers` and `questions` must be built. Most sheets go to `answers`, which takes many in one
-run: where an emulator runs the programs, a start takes far longer than a sheet. The pairs go to `questions`.
+The programs must be built. Most sheets go to `answers` and `listings`, which take many in one run: where an emulator
+runs the programs, a start takes far longer than a sheet. The pairs go to `questions`.
 """
 
 import sys
@@ -17,8 +17,11 @@ from concurrent.futures import ProcessPoolExecutor
 from cases import answer_name, for_answers, for_judge, make_cases
 from checks import Checks, Failure, run_checks
 from comparison import Case, differences
+from example_checks import check_examples
+from listing_comparison import compare_listings
 from pair_tests import compare_pairs
 from programs import BATCH_TIME_LIMIT, WORKERS, batches, framed, run
+from second.listing import check_listing
 from second_by_hand import check_second_program
 from self_check import check_tests_can_fail
 from streams import check_streams
@@ -57,7 +60,9 @@ def frame(case: Case) -> bytes:
 
 
 def compare_judge(case: Case) -> list[Failure]:
-    return differences("judge", [case._replace(shown=False)], run("judge", input=case.data))
+    output = run("judge", input=case.data)
+    reason = check_listing(case.data, output)
+    return [Failure(f"{case.name}, judge", case.data, reason, output)] if reason else []
 
 
 def print_counts(cases: list[Case], judged: list[Case]) -> None:
@@ -101,9 +106,11 @@ def main() -> int:
         check_second_program,
         check_verdicts_by_hand,
         check_walks_by_hand,
+        check_examples,
         check_streams,
         compare_sheets,
         compare_pairs,
+        compare_listings,
     )
 
 

@@ -9,6 +9,7 @@ from checks import Checks
 from named_cases import FIRST, HEAD, HS, LARGEST, LARGEST_HS
 from programs import command, finished, run, run_in_pieces, with_end
 from second.counts import first_line
+from second.listing import check_listing
 
 
 def check_streams(checks: Checks) -> None:
@@ -26,7 +27,7 @@ def check_files(checks: Checks) -> None:
         descriptor = os.memfd_create("sheet")
         os.write(descriptor, data)
         os.lseek(descriptor, 0, os.SEEK_SET)
-        checks.equal("sheet in a file", data, first_line(data), run("judge", stdin=descriptor))
+        checks.equal("sheet in a file", data, None, check_listing(data, run("judge", stdin=descriptor)))
         os.close(descriptor)
 
 
@@ -47,7 +48,8 @@ def check_pieces(checks: Checks) -> None:
         data = b"".join(pieces)
         expected = first_line(data)
         checks.equal("sheet in pieces, second program against 01", data, line + "\n", expected)
-        checks.equal("sheet in pieces", data, expected, run_in_pieces("judge", pieces, pause=0.01))
+        actual = run_in_pieces("judge", pieces, pause=0.01)
+        checks.equal("sheet in pieces", data, None, check_listing(data, actual))
 
 
 def each(data: bytes, size: int) -> list[bytes]:
