@@ -1,9 +1,10 @@
 -- What the verdict call's answer tells: `Proof` says that the sheet's claim is a proof, so that no firing sequence reaches a target marking; and two results that fit one statement are equal, but for the choice among bad markings.
-use mathlib.Core.Path.{_≡_, refl, sym, ap, _∙_}
+use mathlib.Core.Path.{_≡_, refl, sym, ap, _∙_, subst}
 use mathlib.Core.List.{List}
 use Prim.Native.Nat.{ℕ}
 use native.Mathlib.Omega.{arith}
 use Rattle.terms.specs.declared.Claim.{Claim}
+use Rattle.terms.specs.declared.Refusal.{Refusal}
 use Rattle.terms.specs.declared.Transition.{Transition}
 use Rattle.nets.specs.Nets.{Marking, Ends}
 use Rattle.nets.specs.HalfSpaces.{HalfSpace}
@@ -19,13 +20,13 @@ use Rattle.reader.specs.declared.Check.the-variants.{Fine, Refused}
 use Rattle.verdicts.specs.declared.Answer.{Answer}
 use Rattle.verdicts.specs.declared.Answer.the-variants as answers
 use Rattle.verdicts.specs.declared.Judged.{Judged}
-use Rattle.verdicts.specs.Judged.{judgedOf, Judges, countedCheck, IsJudgedIn, IsJudged}
+use Rattle.verdicts.specs.Judged.{plainJudged, judgedOf, Judges, countedCheck, IsJudgedIn, IsJudged}
 
 answer-of : {r p : Judged} → r ≡ p → r .answer ≡ p .answer
 answer-of e = ap (λ (j : Judged). j .answer) e
 
--- no other answer is `Proof`
-refusal-is-none : (q : _) (r : Judged) → r .answer ≡ answers.Refused q → r .answer ≡ answers.Proof → ⊥
+-- no refusal is `Proof`, and no other verdict is
+refusal-is-none : (q : Refusal) (r : Judged) → r .answer ≡ answers.Refused q → r .answer ≡ answers.Proof → ⊥
 refusal-is-none q r e a = let z : _≡_ {A = ℕ} 0 1 = cc in omega arith
 
 so-proof : (q : Setting) (h : HalfSpace) (r : Judged) → Judges q h r → r .answer ≡ answers.Proof → IsProof q h
@@ -47,6 +48,20 @@ proof-tells s i marks queue r j a = by (reading s) refl j
     by (sound x) e j =
         let p = so-checked (countedCheck (countsOf x) i marks queue) x i r j a in
         (x, e, p, nothing-reached (x .setting) (halfSpace (claim x (i .0))) p)
+
+-- and the other way round: a claim that is a proof, asked for where nothing is refused, is answered so
+only-proof : (v : Verdict) → SameBut v proof → judgedOf v ≡ plainJudged answers.Proof
+unfolding SameBut
+only-proof start-outside s = absurd s
+only-proof target-inside s = absurd s
+only-proof (broken t m) s = absurd s
+only-proof proof s = refl
+
+pub proof-given : (s : List ℕ) (i : Claim) (marks queue : ℕ) (r : Judged) (x : Contents) → IsJudged (reading s) i marks queue r → reading s ≡ sound x → countedCheck (countsOf x) i marks queue ≡ Fine → IsProof (x .setting) (halfSpace (claim x (i .0))) → r ≡ plainJudged answers.Proof
+proof-given s i marks queue r x j e f p =
+    let k : IsJudged (sound x) i marks queue r = subst (λ (y : Read Contents). IsJudged y i marks queue r) e j in
+    let l : Judges (x .setting) (halfSpace (claim x (i .0))) r = subst (λ (q : Check). IsJudgedIn q x i r) f k in
+    l .2 ∙ only-proof (l .0) (one-verdict (x .setting) (halfSpace (claim x (i .0))) (l .0) proof (l .1) (proof-exactly (x .setting) (halfSpace (claim x (i .0))) .1 p))
 
 -- the same answer, and the same marking unless it is a bad one
 abbrev pub SameButMarking : Judged → Judged → Type 0
