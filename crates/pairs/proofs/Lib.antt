@@ -3,3 +3,4 @@ pub mod Rows
 pub mod Crossed
 pub mod Asking
 pub mod Order
+pub mod Tells

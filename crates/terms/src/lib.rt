@@ -199,21 +199,21 @@ impl Refusal {
         }
     }
 
-    pub fn not_enabled(p: Place) -> Refusal
-        ensures { λ r. ⌜ r ≡ notEnabled p ⌝ }
+    pub fn not_enabled(short: Place) -> Refusal
+        ensures { λ r. ⌜ r ≡ notEnabled short ⌝ }
     {
         Refusal {
             number: 15,
-            detail: Detail::OfPlace(p),
+            detail: Detail::OfPlace(short),
         }
     }
 
-    pub fn too_many(p: Place) -> Refusal
-        ensures { λ r. ⌜ r ≡ tooMany p ⌝ }
+    pub fn too_many(over: Place) -> Refusal
+        ensures { λ r. ⌜ r ≡ tooMany over ⌝ }
     {
         Refusal {
             number: 16,
-            detail: Detail::OfPlace(p),
+            detail: Detail::OfPlace(over),
         }
     }
 

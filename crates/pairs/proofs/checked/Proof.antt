@@ -39,6 +39,10 @@ fit-requires c κs = search needs
 small-area-requires : tie.Need-small-area-requires
 small-area-requires c κs = search needs
 
+-- where the test of the areas is passed, both are long enough
+both-fit : (c : tie.Else3) → areasFit (c .before .before .before .before .before .before .args .marks) (c .before .before .before .before .before .before .args .queue) ≡ true
+both-fit c = sym (c .before .fit .ensures) ∙ not-false (c .before .fit .result) (c .if3 .left)
+
 returns-3 : tie.Need-returns-3
 returns-3 c =
     let a = c .before .before .before .before .before .before .before .args in
@@ -52,8 +56,7 @@ returns-4 c =
     let a = c .before .before .before .before .before .before .args in
     let p : among (a .i .0) (a .counts .claims) ≡ true = sym (c .before .before .before .before .before .among .ensures) ∙ not-false (c .before .before .before .before .before .among .result) (c .before .before .before .before .if1 .left) in
     let q : among (a .t .0) (a .counts .transitions) ≡ true = sym (c .before .before .before .among2 .ensures) ∙ not-false (c .before .before .before .among2 .result) (c .before .before .if2 .left) in
-    let f : areasFit (a .marks) (a .queue) ≡ true = sym (c .before .fit .ensures) ∙ not-false (c .before .fit .result) (c .if3 .left) in
-    rw (p, q, f)
+    rw (p, q, both-fit c)
 
 pub checked-spec : {M : Type 1} → statement M
 checked-spec =

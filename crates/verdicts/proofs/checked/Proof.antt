@@ -26,6 +26,10 @@ fit-requires c κs = search needs
 small-area-requires : tie.Need-small-area-requires
 small-area-requires c κs = search needs
 
+-- where the test of the areas is passed, both are long enough
+both-fit : (c : tie.Else2) → areasFit (c .before .before .before .before .args .marks) (c .before .before .before .before .args .queue) ≡ true
+both-fit c = sym (c .before .fit .ensures) ∙ not-false (c .before .fit .result) (c .if2 .left)
+
 returns-2 : tie.Need-returns-2
 returns-2 c =
     let a = c .before .before .before .before .before .args in
@@ -37,8 +41,7 @@ returns-3 : tie.Need-returns-3
 returns-3 c =
     let a = c .before .before .before .before .args in
     let p : among (a .i .0) (a .counts .claims) ≡ true = sym (c .before .before .before .among .ensures) ∙ not-false (c .before .before .before .among .result) (c .before .before .if1 .left) in
-    let f : areasFit (a .marks) (a .queue) ≡ true = sym (c .before .fit .ensures) ∙ not-false (c .before .fit .result) (c .if2 .left) in
-    rw (p, f)
+    rw (p, both-fit c)
 
 pub checked-spec : {M : Type 1} → statement M
 checked-spec =

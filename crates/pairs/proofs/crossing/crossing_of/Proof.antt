@@ -44,6 +44,10 @@ same-length c = search needs
 same-length-2 : tie.Need-same-length-2
 same-length-2 c = search needs
 
+-- where the search's answer is not turned down, it has found a vector
+found : (c : tie.Else1) → c .before .before .before .before .before .before .before .find .result .hit ≡ true
+found c = not-false (c .before .before .before .before .before .before .before .find .result .hit) (c .if1 .left)
+
 returns : tie.Need-returns
 returns c =
     let a = c .before .before .before .before .before .before .before .before .before .before .before .before .before .before .before .before .args in
@@ -66,7 +70,7 @@ beside-requires c κs =
     let ks = take (a .n) (a .k) in
     let r = c .before .before .before .before .before .before .before .before .before .before .before .before .before .before .before .before .before .pre .0 in
     let f = c .before .before .before .before .before .before .before .before .find in
-    let hit : f .result .hit ≡ true = not-false (f .result .hit) (c .before .if1 .left) in
+    let hit : f .result .hit ≡ true = found (c .before) in
     let b : Best ks (toZ w32 (ofZ w32 (c .before .before .before .before .before .before .before .before .before .before .before .before .before .window-at .result .lo))) (toZ w32 (ofZ w32 (c .before .before .before .before .before .before .before .before .before .before .before .before .before .window-at .result .hi))) (a .n) (f .result .x) = subst (λ (q : Bool). Answer ks (toZ w32 (ofZ w32 (c .before .before .before .before .before .before .before .before .before .before .before .before .before .window-at .result .lo))) (toZ w32 (ofZ w32 (c .before .before .before .before .before .before .before .before .before .before .before .before .before .window-at .result .hi))) (a .n) (f .result .x) q) hit (f .ensures) in
     b .bounded
 
@@ -82,7 +86,7 @@ returns-2 c =
     let ks = take (a .n) (a .k) in
     let r = c .before .before .before .before .before .before .before .before .before .before .before .before .before .before .before .before .before .before .pre .0 in
     let f = c .before .before .before .before .before .before .before .before .before .find in
-    let hit : f .result .hit ≡ true = not-false (f .result .hit) (c .before .before .if1 .left) in
+    let hit : f .result .hit ≡ true = found (c .before .before) in
     let b : Best ks (toZ w32 (ofZ w32 (c .before .before .before .before .before .before .before .before .before .before .before .before .before .before .window-at .result .lo))) (toZ w32 (ofZ w32 (c .before .before .before .before .before .before .before .before .before .before .before .before .before .before .window-at .result .hi))) (a .n) (f .result .x) = subst (λ (q : Bool). Answer ks (toZ w32 (ofZ w32 (c .before .before .before .before .before .before .before .before .before .before .before .before .before .before .window-at .result .lo))) (toZ w32 (ofZ w32 (c .before .before .before .before .before .before .before .before .before .before .before .before .before .before .window-at .result .hi))) (a .n) (f .result .x) q) hit (f .ensures) in
     let best = rw (lo-is (c .before .before .before .before .before .before .before .before .before .before .before .before .before .before), hi-is (c .before .before .before .before .before .before .before .before .before .before .before .before .before .before)) at b in
     let t = transitionIn (a .sheet .now) (a .n) (a .at) in

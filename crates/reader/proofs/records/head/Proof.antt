@@ -1,6 +1,8 @@
 -- `records::head` meets its contract: its opening stops it, then n does, and then T decides.
 use mathlib.Core.Path.{_≡_, _∙_, sym, ap}
 use native.Mathlib.Omega.{arith}
+use mathlib.Core.Bool.{true}
+use lib.Dec.{leb}
 use Prim.Native.Nat.{_+_, _*_}
 use borrow.Author.Tests.{le-leb, lt-leb}
 use Rattle.terms.specs.Limits.{placesFit, transitionsFit, weightFits, coefficientFits, constantFits, kindFits}
@@ -47,6 +49,10 @@ returns-2 c =
 refuse-requires-2 : tie.Need-refuse-requires-2
 refuse-requires-2 c κs = search needs
 
+-- where the two tests of n are passed, there are at most 16 places
+few-places : (c : tie.Else2) → leb (byte (c .before .before .before .before .before .before .before .args .s .now) 2) 16 ≡ true
+few-places c = le-leb (byte (c .before .before .before .before .before .before .before .args .s .now) 2) 16 (c .if2 .left)
+
 returns-3 : tie.Need-returns-3
 unfolding headOf
 returns-3 c =
@@ -68,13 +74,13 @@ returns-4 : tie.Need-returns-4
 unfolding headOf
 returns-4 c =
     let a = c .before .before .before .before .before .before .before .before .before .before .args in
-    rw (go-then (openedAt (a .s .now) 0 0x4E 0x50 4) (c .before .before .before .before .before .before .before .before .opened .ensures) (need (placesFit (byte (a .s .now) 2)) 3 2 >> (need (transitionsFit (byte (a .s .now) 3)) 3 3 >> sound (sizeOf (byte (a .s .now) 2) (byte (a .s .now) 3)))) (c .before .before .before .before .before .before .enum-told .given .1), le-leb 1 (byte (a .s .now) 2) (c .before .before .before .before .if1 .left), le-leb (byte (a .s .now) 2) 16 (c .before .before .before .if2 .left), lt-leb (byte (a .s .now) 3) 64 (c .before .if3 .taken)) (c .refuse3 .ensures)
+    rw (go-then (openedAt (a .s .now) 0 0x4E 0x50 4) (c .before .before .before .before .before .before .before .before .opened .ensures) (need (placesFit (byte (a .s .now) 2)) 3 2 >> (need (transitionsFit (byte (a .s .now) 3)) 3 3 >> sound (sizeOf (byte (a .s .now) 2) (byte (a .s .now) 3)))) (c .before .before .before .before .before .before .enum-told .given .1), le-leb 1 (byte (a .s .now) 2) (c .before .before .before .before .if1 .left), few-places (c .before .before .before), lt-leb (byte (a .s .now) 3) 64 (c .before .if3 .taken)) (c .refuse3 .ensures)
 
 returns-5 : tie.Need-returns-5
 unfolding headOf
 returns-5 c =
     let a = c .before .before .before .before .before .before .before .before .before .args in
-    rw (go-then (openedAt (a .s .now) 0 0x4E 0x50 4) (c .before .before .before .before .before .before .before .opened .ensures) (need (placesFit (byte (a .s .now) 2)) 3 2 >> (need (transitionsFit (byte (a .s .now) 3)) 3 3 >> sound (sizeOf (byte (a .s .now) 2) (byte (a .s .now) 3)))) (c .before .before .before .before .before .enum-told .given .1), le-leb 1 (byte (a .s .now) 2) (c .before .before .before .if1 .left), le-leb (byte (a .s .now) 2) 16 (c .before .before .if2 .left), le-leb (byte (a .s .now) 3) 64 (c .if3 .left))
+    rw (go-then (openedAt (a .s .now) 0 0x4E 0x50 4) (c .before .before .before .before .before .before .before .opened .ensures) (need (placesFit (byte (a .s .now) 2)) 3 2 >> (need (transitionsFit (byte (a .s .now) 3)) 3 3 >> sound (sizeOf (byte (a .s .now) 2) (byte (a .s .now) 3)))) (c .before .before .before .before .before .enum-told .given .1), le-leb 1 (byte (a .s .now) 2) (c .before .before .before .if1 .left), few-places (c .before .before), le-leb (byte (a .s .now) 3) 64 (c .if3 .left))
 
 pub head-spec : {M : Type 1} → statement M
 head-spec =

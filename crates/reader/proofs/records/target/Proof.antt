@@ -1,6 +1,7 @@
 -- `records::target` meets its contract: its opening stops it or its kind decides.
 use mathlib.Core.Path.{_≡_, _∙_, sym, ap}
 use native.Mathlib.Omega.{arith}
+use mathlib.Core.Bool.{true}
 use Prim.Native.Nat.{_+_, _*_}
 use borrow.Author.Tests.{le-leb, lt-leb}
 use Rattle.terms.specs.Limits.{placesFit, transitionsFit, weightFits, coefficientFits, constantFits, kindFits}
@@ -47,6 +48,10 @@ add-refuse c = search needs
 refuse-requires : tie.Need-refuse-requires
 refuse-requires c κs = search needs
 
+-- where the test of the kind is passed, it is 0 or 1
+two-kinds : (c : tie.Else1) → kindFits (byte (c .before .before .before .before .before .before .args .s .now) (c .before .before .before .before .before .before .args .at + 2)) ≡ true
+two-kinds c = le-leb (byte (c .before .before .before .before .before .before .args .s .now) (c .before .before .before .before .before .before .args .at + 2)) 1 (c .if1 .left)
+
 returns-2 : tie.Need-returns-2
 unfolding targetAt
 returns-2 c =
@@ -57,7 +62,7 @@ returns-3 : tie.Need-returns-3
 unfolding targetAt
 returns-3 c =
     let a = c .before .before .before .before .before .before .args in
-    rw (go-then (openedAt (a .s .now) (a .at) 0x54 0x47 (3 + 2 * a .n)) (c .before .before .before .before .opened .ensures) (need (kindFits (byte (a .s .now) (a .at + 2))) 5 (a .at + 2) >> sound (targetIn (a .s .now) (a .n) (a .at))) (c .before .before .enum-told .given .1), le-leb (byte (a .s .now) (a .at + 2)) 1 (c .if1 .left))
+    rw (go-then (openedAt (a .s .now) (a .at) 0x54 0x47 (3 + 2 * a .n)) (c .before .before .before .before .opened .ensures) (need (kindFits (byte (a .s .now) (a .at + 2))) 5 (a .at + 2) >> sound (targetIn (a .s .now) (a .n) (a .at))) (c .before .before .enum-told .given .1), two-kinds c)
 
 pub target-spec : {M : Type 1} → statement M
 target-spec =

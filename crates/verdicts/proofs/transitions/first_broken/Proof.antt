@@ -45,6 +45,12 @@ behind-transitions-requires c κs =
     let b = limits (s .args .sheet .now) (s .args .counts) (s .pre .0) in
     (b .0, omega (arith, b .1))
 
+-- the record that is looked at in turn t is that of transition t + 1
+record-of : (c : tie.After-behind-transitions Inv-loop μ-loop) → c .behind-transitions .result ≡ transitionsFrom + (c .before .before .before .loop .t + 1 - 1) * transitionSize (c .before .before .before .before .before .before .before .before .before .before .args .counts .places)
+record-of c =
+    let first : c .before .before .before .loop .t ≡ c .before .before .before .loop .t + 1 - 1 = omega arith in
+    c .behind-transitions .ensures .0 ∙ ap (λ (j : ℕ). transitionsFrom + j * transitionSize (c .before .before .before .before .before .before .before .before .before .before .args .counts .places)) first
+
 add-t : tie.Need-add-t Inv-loop μ-loop
 add-t c = search needs
 
@@ -54,8 +60,7 @@ breaks-at-requires c κs =
     let a = s .args in
     let l = c .before .before .before .before .loop in
     let b = sheet-of (a .sheet .now) (λ j. omega (arith, c .before .before .before .before .before .before .before .before .before .before .shared-slice-known .given j)) in
-    let first : l .t ≡ l .t + 1 - 1 = omega arith in
-    let at = c .before .behind-transitions .ensures .0 ∙ ap (λ (j : ℕ). transitionsFrom + j * transitionSize (a .counts .places)) first in
+    let at = record-of (c .before) in
     (rw (toZ-ofZ (s .fits .c)) (ready (a .sheet .now) (a .counts) (s .pre .0) b (l .t + 1) (omega arith) (omega arith) (c .before .behind-transitions .result) at (take (a .counts .places) (a .k)) (a .c) (s .pre .1 .0 .0) (s .pre .1 .0 .1)), (c .before .before .before .before .before .before .before .table-of .ensures, omega (arith, c .before .before .before .before .before .before .before .table-of .kept .1 .1 .0, s .pre .1 .1)))
 
 same-length : tie.Need-same-length Inv-loop μ-loop
@@ -70,8 +75,7 @@ returns c =
     let h = space (take (a .counts .places) (a .k)) (a .c) in
     let r = c .before .breaks-at in
     let t = c .before .before .before .behind-transitions in
-    let first : l .t ≡ l .t + 1 - 1 = omega arith in
-    let at = t .ensures .0 ∙ ap (λ (j : ℕ). transitionsFrom + j * transitionSize (a .counts .places)) first in
+    let at = record-of (c .before .before .before) in
     let is = transition-is (a .sheet .now) (a .counts) q (l .t + 1) (omega arith) (omega arith) (t .result) at in
     let told = rw (toZ-ofZ (s .fits .c)) at (r .ensures) in
     let kept = rw (toZ-ofZ (s .fits .c)) at (l .inv .1) in
@@ -92,8 +96,7 @@ loop-again c =
     let h = space (take (a .counts .places) (a .k)) (a .c) in
     let r = c .before .breaks-at in
     let t = c .before .before .before .behind-transitions in
-    let first : l .t ≡ l .t + 1 - 1 = omega arith in
-    let at = t .ensures .0 ∙ ap (λ (j : ℕ). transitionsFrom + j * transitionSize (a .counts .places)) first in
+    let at = record-of (c .before .before .before) in
     let is = transition-is (a .sheet .now) (a .counts) q (l .t + 1) (omega arith) (omega arith) (t .result) at in
     let told = rw (toZ-ofZ (s .fits .c)) at (r .ensures) in
     let kept = rw (toZ-ofZ (s .fits .c)) at (l .inv .1) in
