@@ -4,6 +4,7 @@ ghost use Prim.Native.Nat.{_<_, _≤_};
 ghost use lib.ListN.{length, replicate};
 ghost use Rattle.signed.specs.Parts.{P, N};
 ghost use Rattle.search.specs.State.{Next, State, Sizes, Visited, Expanded, Reaches};
+use std::num::wrapping_sub_usize;
 
 // The queue's entry that was looked for.
 pub enum Reached {
@@ -17,17 +18,14 @@ pub fn wide16(x: u16) -> usize
     x as usize
 }
 
-// The position one step of k from v, and v itself where that lies outside the table.
+// The position one step of k from v, and v itself where that lies outside the table. The sum is taken 128 too high, so that it is not
+// below 0, and put back by a difference that wraps: one test then covers both ends.
 fn next(v: usize, k: i8, size: usize) -> usize
     requires { ⌜ (v < size) × (size ≤ 20000) ⌝ }
     ensures { λ r. ⌜ Next v (P k) (N k) size r ⌝ }
 {
-    let w = (v as i32) + (k as i32);
-    if w < 0 {
-        return v;
-    }
-    let z = w as usize;
-    if z < size { z } else { v }
+    let w = wrapping_sub_usize(((v as i32) + (k as i32) + 128) as usize, 128);
+    if w < size { w } else { v }
 }
 
 // The step of place p from entry `head` of the queue: a position that is not marked yet is marked and queued.

@@ -1,72 +1,93 @@
--- `search::steps::next` meets its contract: v + k in whole numbers, where it lies in the table; where it is below 0 or past the end, no position is a step away.
-use mathlib.Core.Path.{_≡_, refl}
+-- `search::steps::next` meets its contract: v + k + 128 is not below 0, and the difference that wraps is below the size exactly where v + k is a position of the table.
+use mathlib.Core.Path.{_≡_, refl, sym, _∙_}
+use Prim.Native.Nat.{ℕ, _+_, _-_, _%_, _≤_, _<_, _^_}
+use native.Mathlib.Nat.{mod-eq-of-lt}
+use native.Mathlib.Decide.{decLt}
 use native.Mathlib.Omega.{arith}
-use Prim.Native.Nat.{_+_}
 use lib.IntN.{ℤ, pos, natAbs, _+ℤ_}
 use lib.Signed.{_≤ℤ_}
 use mir.Syntax.{w8, w32, w64}
 use mir.Val.{SFits, toZ, ofZ}
 use mir.Facts.{toZ-ofZ, toZ-pos, sfits-widen}
-use borrow.Author.Needs.{needs}
 use Rattle.signed.specs.Linear.{linear}
-use Rattle.signed.specs.Parts.{P, N, bounds, abs-parts, apart, add-parts, lt-true, lt-false, lt-in, le-in, to-unsigned}
+use Rattle.signed.specs.Parts.{P, N, bounds, abs-parts, apart, add-parts, to-unsigned}
+use borrow.Author.Needs.{needs}
 use Rattle.search.proofs.steps.next.Statement.{statement}
 use Rattle.search.proofs.steps.next.Tie as tie
 
-cast-w : tie.Need-cast-w
-cast-w c = search needs
+-- the sum, 128 too high
+abbrev low : tie.Start → ℤ
+low c = pos (c .args .v) +ℤ c .args .k
 
-cast-w-2 : tie.Need-cast-w-2
-cast-w-2 c = rw (toZ-ofZ (c .fits .k)) (sfits-widen tt (c .fits .k))
-
--- the sum, of positions
 abbrev z : tie.Start → ℤ
-z c = pos (c .args .v) +ℤ c .args .k
+z c = low c +ℤ pos 128
 
-fits : (c : tie.Start) → SFits w32 (z c)
+fits : (c : tie.Start) → SFits w32 (low c)
 fits c = let f = c .fits .k in simp linear (omega (arith, bounds, c .pre))
 
-add-w : tie.Need-add-w
-add-w c = rw (toZ-ofZ (cast-w-2 c), toZ-ofZ (c .fits .k), toZ-pos w32 (cast-w c .sfits)) (fits c)
+fits-high : (c : tie.Start) → SFits w32 (z c)
+fits-high c = let f = c .fits .k in simp linear (omega (arith, bounds, c .pre))
 
--- the local w, and that it is the sum
-abbrev w : tie.Start → ℤ
-w c = toZ w32 (ofZ w32 (toZ w32 (c .args .v) +ℤ toZ w32 (ofZ w32 (toZ w8 (ofZ w8 (c .args .k))))))
+not-below : (c : tie.Start) → pos 0 ≤ℤ z c
+not-below c = let f = c .fits .k in simp linear (omega (arith, bounds))
 
-w-is : (c : tie.Start) → w c ≡ z c
-w-is c = rw (toZ-ofZ (add-w c), toZ-ofZ (cast-w-2 c), toZ-ofZ (c .fits .k), toZ-pos w32 (cast-w c .sfits))
+-- and as a natural
+sum : (c : tie.Start) → natAbs (z c) + N (c .args .k) ≡ c .args .v + P (c .args .k) + 128
+sum c = omega (arith, abs-parts (z c), apart (z c), add-parts (low c) (pos 128), add-parts (pos (c .args .v)) (c .args .k), simp linear at (not-below c))
+
+-- a difference of 128 that wraps: where it is small it is exact, and so it is from 128 on
+unwrapped : (r n : ℕ) → (r + 128) % 2 ^ 64 ≡ n → r < 20000 → r + 128 ≡ n
+unwrapped r n e l = sym (mod-eq-of-lt (omega arith)) ∙ e
+
+wrapped : (r n : ℕ) → (r + 128) % 2 ^ 64 ≡ n → r < 2 ^ 64 → 128 ≤ n → r + 128 ≡ n
+wrapped r n e l h = omega arith
+
+cast-wrapping-sub-usize : tie.Need-cast-wrapping-sub-usize
+cast-wrapping-sub-usize c = search needs
+
+cast-wrapping-sub-usize-2 : tie.Need-cast-wrapping-sub-usize-2
+cast-wrapping-sub-usize-2 c = rw (toZ-ofZ (c .fits .k)) (sfits-widen tt (c .fits .k))
+
+add-wrapping-sub-usize : tie.Need-add-wrapping-sub-usize
+add-wrapping-sub-usize c = rw (toZ-ofZ (cast-wrapping-sub-usize-2 c), toZ-ofZ (c .fits .k), toZ-pos w32 (cast-wrapping-sub-usize c .sfits)) (fits c)
+
+add-wrapping-sub-usize-2 : tie.Need-add-wrapping-sub-usize-2
+add-wrapping-sub-usize-2 c = rw (toZ-ofZ (add-wrapping-sub-usize c), toZ-ofZ (cast-wrapping-sub-usize-2 c), toZ-ofZ (c .fits .k), toZ-pos w32 (cast-wrapping-sub-usize c .sfits)) (fits-high c)
+
+cast-wrapping-sub-usize-3 : tie.Need-cast-wrapping-sub-usize-3
+cast-wrapping-sub-usize-3 c =
+    rw (toZ-ofZ (add-wrapping-sub-usize-2 c), toZ-ofZ (add-wrapping-sub-usize c), toZ-ofZ (cast-wrapping-sub-usize-2 c), toZ-ofZ (c .fits .k), toZ-pos w32 (cast-wrapping-sub-usize c .sfits))
+    (to-unsigned w32 w64 (z c) tt (fits-high c) (not-below c))
+
+wrapping-sub-usize-requires : tie.Need-wrapping-sub-usize-requires
+wrapping-sub-usize-requires c κs = search needs
+
+sum-is : (c : tie.After-wrapping-sub-usize) → (c .wrapping-sub-usize .result + 128) % 2 ^ 64 ≡ natAbs (z (c .before))
+sum-is c =
+    rw (toZ-ofZ (add-wrapping-sub-usize-2 (c .before)), toZ-ofZ (add-wrapping-sub-usize (c .before)), toZ-ofZ (cast-wrapping-sub-usize-2 (c .before)), toZ-ofZ (c .before .fits .k), toZ-pos w32 (cast-wrapping-sub-usize (c .before) .sfits))
+    at (c .wrapping-sub-usize .ensures)
 
 returns : tie.Need-returns
 returns c =
-    let s = c .before in
-    let h = lt-in (rw (w-is s) at (lt-true (w s) (pos 0) (c .if1 .taken))) in
-    let a = add-parts (pos (s .args .v)) (s .args .k) in
-    record { inside = s .pre .0; exact = λ r e l. absurd (omega arith); moved = λ n. absurd (n refl) }
-
-not-below : (c : tie.Else1) → pos 0 ≤ℤ z (c .before)
-not-below c = rw (w-is (c .before)) at (lt-false (w (c .before)) (pos 0) (c .if1 .left))
-
--- and as a position
-sum : (c : tie.Else1) → natAbs (z (c .before)) + N (c .before .args .k) ≡ c .before .args .v + P (c .before .args .k)
-sum c =
-    let h = le-in (not-below c) in
-    omega (arith, abs-parts (z (c .before)), apart (z (c .before)), add-parts (pos (c .before .args .v)) (c .before .args .k))
-
-cast-z : tie.Need-cast-z
-cast-z c = rw (w-is (c .before)) (to-unsigned w32 w64 (z (c .before)) tt (fits (c .before)) (not-below c))
+    let s = c .before .before in
+    let h = unwrapped (c .before .wrapping-sub-usize .result) (natAbs (z s)) (sum-is (c .before)) (omega (arith, c .if1 .taken, s .pre)) in
+    record { inside = c .if1 .taken; exact = λ r e l. omega (arith, sum s); moved = λ n. omega (arith, sum s) }
 
 returns-2 : tie.Need-returns-2
 returns-2 c =
     let s = c .before .before in
-    let h = sum (c .before) in
-    rw (w-is s) (record { inside = rw (w-is s) at (c .if2 .taken); exact = λ r e l. omega arith; moved = λ n. h })
-
-returns-3 : tie.Need-returns-3
-returns-3 c =
-    let s = c .before .before in
-    let h = sum (c .before) in
-    let b = rw (w-is s) at (c .if2 .left) in
-    record { inside = s .pre .0; exact = λ r e l. absurd (omega arith); moved = λ n. absurd (n refl) }
+    let r = c .before .wrapping-sub-usize .result in
+    record { inside = s .pre .0; exact = λ w e l. absurd (omega (arith, c .if1 .left, wrapped r (natAbs (z s)) (sum-is (c .before)) (c .before .wrapping-sub-usize .ok) (omega (arith, sum s)), sum s)); moved = λ n. absurd (n refl) }
 
 pub next-spec : {M : Type 1} → statement M
-next-spec = tie.close (tie.spec cast-w cast-w-2 add-w returns cast-z returns-2 returns-3)
+next-spec =
+    tie.close
+    (tie.spec
+    cast-wrapping-sub-usize
+    cast-wrapping-sub-usize-2
+    add-wrapping-sub-usize
+    add-wrapping-sub-usize-2
+    cast-wrapping-sub-usize-3
+    wrapping-sub-usize-requires
+    returns
+    returns-2)
