@@ -7,7 +7,7 @@ use Prim.Native.Nat.{ℕ, zero, suc, _+_, _*_, _≤_, _<_}
 use native.Mathlib.Numerals.{add-one}
 use native.Mathlib.Omega.{arith}
 use lib.IntN.{ℤ, pos}
-use lib.ListN.{length, getD, set, take, drop, replicate, length-set, length-replicate, length-map, List·getD-map, drop-of-length-le}
+use lib.ListN.{length, getD, set, take, drop, replicate, length-set, length-replicate, List·getD-map, drop-of-length-le}
 use lib.Seq.{drop-cons, getD-take, length-take-le}
 use Rattle.signed.specs.Parts.{P, N, eq-out}
 use Rattle.nets.specs.HalfSpaces.{value}
@@ -15,7 +15,7 @@ use Rattle.search.specs.Searched.{total, Hit}
 use Rattle.search.specs.Sum.{dot, ups, downs}
 use Rattle.search.specs.Table.{Looked}
 use Rattle.search.specs.Row.{Among, Kept, Inside, Spread, Over}
-use Rattle.search.proofs.Backward.{part}
+use Rattle.search.proofs.Backward.{part, dot-zeros, total-zeros}
 use Rattle.search.proofs.Tied.{tied}
 
 -- the counts with a more at a place
@@ -34,17 +34,6 @@ unfolding total
 total-plus [] p a h = absurd (omega arith)
 total-plus (b ∷ x) zero a h = omega arith
 total-plus (b ∷ x) (suc p) a h = omega (arith, total-plus x p a (omega arith))
-
-pub dot-zeros : (f : List ℕ) (n : ℕ) → dot f (replicate n 0) ≡ 0
-unfolding dot
-dot-zeros [] n = refl
-dot-zeros (k ∷ f) zero = refl
-dot-zeros (k ∷ f) (suc n) = omega (arith, dot-zeros f n)
-
-pub total-zeros : (n : ℕ) → total (replicate n 0) ≡ 0
-unfolding total
-total-zeros zero = refl
-total-zeros (suc n) = omega (arith, total-zeros n)
 
 dot-none : (f : List ℕ) → dot f [] ≡ 0
 unfolding dot

@@ -39,6 +39,6 @@ pub record Spread (places y x : List ℕ) : Type 0 where
 -- what `over` leaves: an answer for the row, its counts put back
 pub record Over (row : List ℤ) (places : List ℕ) (lo hi : ℤ) (x : List ℕ) (r : Bool) : Type 0 where
   pub y : List ℕ
-  pub places′ : length y ≡ length row
+  pub long : length y ≡ length row
   pub looked : Looked row lo hi y r
   pub spread : Spread places y x

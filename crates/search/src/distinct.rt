@@ -38,7 +38,7 @@ fn join(k: &[i8], p: usize, row: &mut [i8], places: &mut [u8], n: usize) -> usiz
     n + 1
 }
 
-// How many the row has.
+// Fills the row and its places, and answers how many there are.
 pub fn distinct(k: &[i8], row: &mut [i8], places: &mut [u8]) -> usize
     requires { ⌜ (length (now k) ≤ 16) × (length (now row) ≡ length (now k)) × (length (now places) ≡ length (now k)) ⌝ }
     ensures { λ r. ⌜ Kept (now (k .entry)) (now (row .exit)) (now (places .exit)) r (length (now (k .entry))) ⌝ }

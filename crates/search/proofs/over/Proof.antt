@@ -70,7 +70,7 @@ same-length-3 c = search needs
 returns : tie.Need-returns
 returns c =
     let l = c .before .before .before .before .before .before .before .before .before .before in
-    record { y = Y l; places′ = places l; looked = found l; spread = subst (λ (y : List ℕ). Spread (c .before .before .before .before .before .before .before .before .before .before .before .before .before .before .before .before .before .before .args .places .now) y (c .before .before .spread .last .1 .1 .0)) (front l) (c .before .before .spread .ensures) }
+    record { y = Y l; long = places l; looked = found l; spread = subst (λ (y : List ℕ). Spread (c .before .before .before .before .before .before .before .before .before .before .before .before .before .before .before .before .before .before .args .places .now) y (c .before .before .spread .last .1 .1 .0)) (front l) (c .before .before .spread .ensures) }
 
 pub over-spec : {M : Type 1} → statement M
 over-spec =

@@ -1,9 +1,9 @@
 -- `search::distinct::join` meets its contract: a coefficient that is 0 or known is left out, and any other is put behind the row (Keeping.antt).
 use mathlib.Core.Path.{_≡_, sym, ap, _∙_, subst}
 use mathlib.Core.Logic.{inl, inr}
-use Prim.Native.Nat.{ℕ, _≤_, _<_}
+use Prim.Native.Nat.{_<_}
 use native.Mathlib.Omega.{arith}
-use lib.IntN.{ℤ, pos}
+use lib.IntN.{pos}
 use lib.ListN.{length, getD, take}
 use lib.Seq.{length-take-le}
 use mir.Syntax.{w8}
