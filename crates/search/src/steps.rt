@@ -4,7 +4,6 @@ ghost use Prim.Native.Nat.{_<_, _≤_};
 ghost use lib.ListN.{length, getD, replicate};
 ghost use Rattle.signed.specs.Parts.{P, N};
 ghost use Rattle.search.specs.State.{Next, State, Sizes, Visited, Expanded, Reaches};
-use std::num::wrapping_sub_usize;
 
 // The queue's entry that was looked for.
 pub enum Reached {
@@ -18,13 +17,13 @@ pub fn wide16(x: u16) -> usize
     x as usize
 }
 
-// The position one step of k from v, and v itself where that lies outside the table. The sum is taken 128 too high, so that it is not
-// below 0, and put back by a difference that wraps: one test then covers both ends.
+// The position one step of k from v, and v itself where that lies outside the table. The sum is taken modulo 2^32, where one below 0
+// is larger than any position: one test then covers both ends.
 fn next(v: usize, k: i8, size: usize) -> usize
     requires { ⌜ (v < size) × (size ≤ 20000) ⌝ }
     ensures { λ r. ⌜ Next v (P k) (N k) size r ⌝ }
 {
-    let w = wrapping_sub_usize(((v as i32) + (k as i32) + 128) as usize, 128);
+    let w = (((v as i64) + (k as i64) + 4294967296) as usize) % 4294967296;
     if w < size { w } else { v }
 }
 
