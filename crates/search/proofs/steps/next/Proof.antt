@@ -1,10 +1,10 @@
--- `search::steps::next` meets its contract: v + k + 4294967296 is not below 0, and modulo 4294967296 it is below the size exactly where v + k is a position of the table.
+-- `search::steps::next` meets its contract: v + k + 2^32 is not below 0, and modulo 2^32 it is below the size exactly where v + k is a position of the table.
 use mathlib.Core.Path.{_≡_, refl}
 use Prim.Native.Nat.{ℕ, _+_, _%_, _≤_, _<_}
 use native.Mathlib.Omega.{arith}
 use lib.IntN.{ℤ, pos, natAbs, _+ℤ_}
 use lib.Signed.{_≤ℤ_}
-use mir.Syntax.{w8, w64, w64}
+use mir.Syntax.{w8, w64}
 use mir.Val.{SFits, toZ, ofZ}
 use mir.Facts.{toZ-ofZ, toZ-pos, sfits-widen}
 use Rattle.signed.specs.Linear.{linear}
