@@ -56,13 +56,13 @@ part [] p = omega arith
 part (a ∷ x) zero = omega arith
 part (a ∷ x) (suc p) = omega (arith, part x p)
 
-dot-zeros : (k : List ℕ) (n : ℕ) → dot k (replicate n 0) ≡ 0
+pub dot-zeros : (k : List ℕ) (n : ℕ) → dot k (replicate n 0) ≡ 0
 unfolding dot
 dot-zeros [] n = refl
 dot-zeros (k ∷ ks) zero = refl
 dot-zeros (k ∷ ks) (suc n) = omega (arith, dot-zeros ks n)
 
-total-zeros : (n : ℕ) → total (replicate n 0) ≡ 0
+pub total-zeros : (n : ℕ) → total (replicate n 0) ≡ 0
 unfolding total
 total-zeros zero = refl
 total-zeros (suc n) = omega (arith, total-zeros n)

@@ -7,3 +7,5 @@ pub mod Answer
 pub mod Places
 pub mod Tied
 pub mod Rows
+pub mod Keeping
+pub mod Compact

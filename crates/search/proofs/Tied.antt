@@ -14,7 +14,7 @@ use Rattle.search.specs.Sum.{dot, ups, downs, Hits}
 use Rattle.search.specs.Table.{Placed, Leads, Looked}
 use Rattle.search.specs.declared.table.Table.{Table}
 
-tied : (ks : List ℤ) (x : List ℕ) → P (value ks x) + dot (downs ks) x ≡ dot (ups ks) x + N (value ks x)
+pub tied : (ks : List ℤ) (x : List ℕ) → P (value ks x) + dot (downs ks) x ≡ dot (ups ks) x + N (value ks x)
 unfolding value dot
 tied [] x = refl
 tied (k ∷ ks) [] = refl

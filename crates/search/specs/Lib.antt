@@ -2,3 +2,4 @@ pub mod Searched
 pub mod Sum
 pub mod State
 pub mod Table
+pub mod Row

@@ -9,7 +9,7 @@ use crate::steps::Reached;
 use crate::steps::reach;
 use crate::steps::wide16;
 
-fn wide8(x: u8) -> usize
+pub fn wide8(x: u8) -> usize
     ensures { λ r. ⌜ r ≡ x ⌝ }
 {
     x as usize

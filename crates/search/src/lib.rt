@@ -1,18 +1,23 @@
 // Is there an x of whole numbers, zero or more, with lo <= k(0) x(0) + k(1) x(1) + .. <= hi, and which has the least total?
-// A breadth-first search over the values that steps of one more can lead to, in two areas that the caller lends.
+// A breadth-first search over the values that steps of one more can lead to, in two areas that the caller lends. A coefficient that
+// stands at several places is one step, and one of 0 is none.
 ghost use mathlib.Core.Path.{_≡_};
 ghost use Prim.Native.Nat.{_≤_};
 ghost use lib.ListN.{length, take, replicate};
 ghost use Rattle.search.specs.Searched.{Searched, Ends};
 ghost use Rattle.search.specs.Table.{Looked};
+ghost use Rattle.search.specs.Row.{Inside, Over};
 
 pub mod areas; // areas.rt: the areas are cleared
 mod back; // back.rt: the counts that lead to an entry of the queue
+mod distinct; // distinct.rt: each coefficient once, and counts put back at their places
 mod steps; // steps.rt: the search itself
 mod table; // table.rt: where the table puts 0 and the window
 
 use areas::clear8;
 use back::search;
+use distinct::distinct;
+use distinct::spread;
 use table::longest;
 use table::placed;
 
@@ -37,13 +42,39 @@ fn look(k: &[i8], lo: i32, hi: i32, marks: &mut [u8], queue: &mut [u16], x: &mut
     search(k, &mut marks[..size], queue, x, t.start, t.lo, t.hi)
 }
 
+// The answer for the row that is searched, and its counts put back at their places in x.
+fn over(
+    row: &[i8],
+    places: &[u8],
+    lo: i32,
+    hi: i32,
+    marks: &mut [u8],
+    queue: &mut [u16],
+    x: &mut [u16],
+) -> bool
+    requires { ⌜ (length (now row) ≤ 16) × (length (now marks) ≡ 20000) × (length (now queue) ≡ 20000) ⌝ }
+    requires { ⌜ (length (now places) ≡ length (now row)) × (now x ≡ replicate (length (now x)) 0) ⌝ }
+    requires { ⌜ Inside (now places) (length (now x)) ⌝ }
+    requires { ⌜ Ends lo hi ⌝ }
+    ensures { λ r. ⌜ Over (now (row .entry)) (now (places .entry)) lo hi (now (x .exit)) r ⌝ }
+{
+    let m = row.len();
+    let mut y = [0u16; 16];
+    let hit = look(row, lo, hi, marks, queue, &mut y[..m]);
+    spread(places, &y[..m], x);
+    hit
+}
+
 // The first n of k count. What the areas hold before does not matter, and what they hold afterwards is not said: `areas::wipe` clears them.
 pub fn find(k: [i8; 16], n: usize, lo: i32, hi: i32, marks: &mut [u8], queue: &mut [u16]) -> Found
     requires { ⌜ (n ≤ 16) × (length (now marks) ≡ 20000) × (length (now queue) ≡ 20000) ⌝ }
     requires { ⌜ Ends lo hi ⌝ }
     ensures { λ r. ⌜ Searched (take n k) lo hi n r ⌝ }
 {
+    let mut row = [0i8; 16];
+    let mut places = [0u8; 16];
+    let m = distinct(&k[..n], &mut row[..n], &mut places[..n]);
     let mut x = [0u16; 16];
-    let hit = look(&k[..n], lo, hi, marks, queue, &mut x[..n]);
+    let hit = over(&row[..m], &places[..m], lo, hi, marks, queue, &mut x[..n]);
     Found { hit, x }
 }

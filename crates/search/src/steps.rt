@@ -1,7 +1,7 @@
 // The search: from each entry of the queue in its order, one step by each place. A position's mark names the place whose step led there first.
 ghost use mathlib.Core.Path.{_≡_};
 ghost use Prim.Native.Nat.{_<_, _≤_};
-ghost use lib.ListN.{length, replicate};
+ghost use lib.ListN.{length, getD, replicate};
 ghost use Rattle.signed.specs.Parts.{P, N};
 ghost use Rattle.search.specs.State.{Next, State, Sizes, Visited, Expanded, Reaches};
 
@@ -17,27 +17,32 @@ pub fn wide16(x: u16) -> usize
     x as usize
 }
 
-// The position one step of k from v, and v itself where that lies outside the table.
+// The position one step of k from v, and v itself where that lies outside the table. The sum is taken modulo 2^32, where one below 0
+// is larger than any position: one test then covers both ends.
 fn next(v: usize, k: i8, size: usize) -> usize
     requires { ⌜ (v < size) × (size ≤ 20000) ⌝ }
     ensures { λ r. ⌜ Next v (P k) (N k) size r ⌝ }
 {
-    let w = (v as i32) + (k as i32);
-    if w < 0 {
-        return v;
-    }
-    let z = w as usize;
-    if z < size { z } else { v }
+    let w = (((v as i64) + (k as i64) + 4294967296) as usize) % 4294967296;
+    if w < size { w } else { v }
 }
 
-// The step of place p from entry `head` of the queue: a position that is not marked yet is marked and queued.
-fn visit(k: &[i8], mark: &mut [u8], queue: &mut [u16], head: usize, p: usize, tail: usize) -> usize
+// The step of place p from entry `head` of the queue, which is v: a position that is not marked yet is marked and queued.
+fn visit(
+    k: &[i8],
+    mark: &mut [u8],
+    queue: &mut [u16],
+    head: usize,
+    v: usize,
+    p: usize,
+    tail: usize,
+) -> usize
     requires { ⌜ Sizes (now k) (now mark) (now queue) ⌝ }
-    requires { ⌜ (head < tail) × (p < length (now k)) ⌝ }
+    requires { ⌜ (head < tail) × (p < length (now k)) × (v ≡ getD (now queue) head 0) ⌝ }
     requires { ⌜ State (now k) (now mark) (now queue) head p tail ⌝ }
     ensures { λ r. ⌜ Visited (now (k .entry)) (now (mark .exit)) (now (queue .exit)) (now (queue .entry)) head p tail r ⌝ }
 {
-    let w = next(wide16(queue[head]), k[p], mark.len());
+    let w = next(v, k[p], mark.len());
     if mark[w] == 0 {
         mark[w] = (p + 1) as u8;
         queue[tail] = w as u16;
@@ -52,10 +57,11 @@ fn expand(k: &[i8], mark: &mut [u8], queue: &mut [u16], head: usize, tail: usize
     requires { ⌜ State (now k) (now mark) (now queue) head 0 tail ⌝ }
     ensures { λ r. ⌜ Expanded (now (k .entry)) (now (mark .exit)) (now (queue .exit)) (now (queue .entry)) head tail r ⌝ }
 {
+    let v = wide16(queue[head]);
     let mut t = tail;
     let mut p = 0;
     while p < k.len() {
-        t = visit(k, mark, queue, head, p, t);
+        t = visit(k, mark, queue, head, v, p, t);
         p += 1;
     }
     t

@@ -1,17 +1,48 @@
--- `search::steps::next` meets its contract: v + k in whole numbers, where it lies in the table; where it is below 0 or past the end, no position is a step away.
+-- `search::steps::next` meets its contract: v + k + 2^32 is not below 0, and modulo 2^32 it is below the size exactly where v + k is a position of the table.
 use mathlib.Core.Path.{_≡_, refl}
+use Prim.Native.Nat.{ℕ, _+_, _%_, _≤_, _<_}
 use native.Mathlib.Omega.{arith}
-use Prim.Native.Nat.{_+_}
 use lib.IntN.{ℤ, pos, natAbs, _+ℤ_}
 use lib.Signed.{_≤ℤ_}
-use mir.Syntax.{w8, w32, w64}
+use mir.Syntax.{w8, w64}
 use mir.Val.{SFits, toZ, ofZ}
 use mir.Facts.{toZ-ofZ, toZ-pos, sfits-widen}
-use borrow.Author.Needs.{needs}
 use Rattle.signed.specs.Linear.{linear}
-use Rattle.signed.specs.Parts.{P, N, bounds, abs-parts, apart, add-parts, lt-true, lt-false, lt-in, le-in, to-unsigned}
+use Rattle.signed.specs.Parts.{P, N, bounds, abs-parts, apart, add-parts, to-unsigned}
+use Rattle.search.specs.State.{Next}
+use borrow.Author.Needs.{needs}
 use Rattle.search.proofs.steps.next.Statement.{statement}
 use Rattle.search.proofs.steps.next.Tie as tie
+
+-- the sum, 4294967296 too high
+abbrev low : tie.Start → ℤ
+low c = pos (c .args .v) +ℤ c .args .k
+
+abbrev z : tie.Start → ℤ
+z c = low c +ℤ pos 4294967296
+
+fits : (c : tie.Start) → SFits w64 (low c)
+fits c = let f = c .fits .k in simp linear (omega (arith, bounds, c .pre))
+
+fits-high : (c : tie.Start) → SFits w64 (z c)
+fits-high c = let f = c .fits .k in simp linear (omega (arith, bounds, c .pre))
+
+not-below : (c : tie.Start) → pos 0 ≤ℤ z c
+not-below c = let f = c .fits .k in simp linear (omega (arith, bounds))
+
+-- and as a natural
+sum : (c : tie.Start) → natAbs (z c) + N (c .args .k) ≡ c .args .v + P (c .args .k) + 4294967296
+sum c = omega (arith, abs-parts (z c), apart (z c), add-parts (low c) (pos 4294967296), add-parts (pos (c .args .v)) (c .args .k), simp linear at (not-below c))
+
+small : (c : tie.Start) → P (c .args .k) + N (c .args .k) ≤ 128
+small c = let f = c .fits .k in omega (arith, bounds)
+
+module _ (v u d size n : ℕ) (b : v < size) (h : size ≤ 20000) (k : u + d ≤ 128) (s : n + d ≡ v + u + 4294967296) where
+  stepped : n % 4294967296 < size → Next v u d size (n % 4294967296)
+  stepped l = record { inside = l; exact = λ w e t. omega arith; moved = λ x. omega arith }
+
+  stayed : size ≤ n % 4294967296 → Next v u d size v
+  stayed l = record { inside = b; exact = λ w e t. absurd (omega arith); moved = λ x. absurd (x refl) }
 
 cast-w : tie.Need-cast-w
 cast-w c = search needs
@@ -19,54 +50,30 @@ cast-w c = search needs
 cast-w-2 : tie.Need-cast-w-2
 cast-w-2 c = rw (toZ-ofZ (c .fits .k)) (sfits-widen tt (c .fits .k))
 
--- the sum, of positions
-abbrev z : tie.Start → ℤ
-z c = pos (c .args .v) +ℤ c .args .k
-
-fits : (c : tie.Start) → SFits w32 (z c)
-fits c = let f = c .fits .k in simp linear (omega (arith, bounds, c .pre))
-
 add-w : tie.Need-add-w
-add-w c = rw (toZ-ofZ (cast-w-2 c), toZ-ofZ (c .fits .k), toZ-pos w32 (cast-w c .sfits)) (fits c)
+add-w c = rw (toZ-ofZ (cast-w-2 c), toZ-ofZ (c .fits .k), toZ-pos w64 (cast-w c .sfits)) (fits c)
 
--- the local w, and that it is the sum
-abbrev w : tie.Start → ℤ
-w c = toZ w32 (ofZ w32 (toZ w32 (c .args .v) +ℤ toZ w32 (ofZ w32 (toZ w8 (ofZ w8 (c .args .k))))))
+add-w-2 : tie.Need-add-w-2
+add-w-2 c = rw (toZ-ofZ (add-w c), toZ-ofZ (cast-w-2 c), toZ-ofZ (c .fits .k), toZ-pos w64 (cast-w c .sfits)) (fits-high c)
 
-w-is : (c : tie.Start) → w c ≡ z c
-w-is c = rw (toZ-ofZ (add-w c), toZ-ofZ (cast-w-2 c), toZ-ofZ (c .fits .k), toZ-pos w32 (cast-w c .sfits))
+cast-w-3 : tie.Need-cast-w-3
+cast-w-3 c = rw (toZ-ofZ (add-w-2 c), toZ-ofZ (add-w c), toZ-ofZ (cast-w-2 c), toZ-ofZ (c .fits .k), toZ-pos w64 (cast-w c .sfits)) (to-unsigned w64 w64 (z c) tt (fits-high c) (not-below c))
+
+-- the number that is divided is that sum
+z-is : (c : tie.Start) → toZ w64 (ofZ w64 (toZ w64 (ofZ w64 (toZ w64 (c .args .v) +ℤ toZ w64 (ofZ w64 (toZ w8 (ofZ w8 (c .args .k)))))) +ℤ pos 4294967296)) ≡ z c
+z-is c = rw (toZ-ofZ (add-w-2 c), toZ-ofZ (add-w c), toZ-ofZ (cast-w-2 c), toZ-ofZ (c .fits .k), toZ-pos w64 (cast-w c .sfits))
 
 returns : tie.Need-returns
 returns c =
     let s = c .before in
-    let h = lt-in (rw (w-is s) at (lt-true (w s) (pos 0) (c .if1 .taken))) in
-    let a = add-parts (pos (s .args .v)) (s .args .k) in
-    record { inside = s .pre .0; exact = λ r e l. absurd (omega arith); moved = λ n. absurd (n refl) }
-
-not-below : (c : tie.Else1) → pos 0 ≤ℤ z (c .before)
-not-below c = rw (w-is (c .before)) at (lt-false (w (c .before)) (pos 0) (c .if1 .left))
-
--- and as a position
-sum : (c : tie.Else1) → natAbs (z (c .before)) + N (c .before .args .k) ≡ c .before .args .v + P (c .before .args .k)
-sum c =
-    let h = le-in (not-below c) in
-    omega (arith, abs-parts (z (c .before)), apart (z (c .before)), add-parts (pos (c .before .args .v)) (c .before .args .k))
-
-cast-z : tie.Need-cast-z
-cast-z c = rw (w-is (c .before)) (to-unsigned w32 w64 (z (c .before)) tt (fits (c .before)) (not-below c))
+    let a = s .args in
+    rw (z-is s) (stepped (a .v) (P (a .k)) (N (a .k)) (a .size) (natAbs (z s)) (s .pre .0) (s .pre .1) (small s) (sum s) (rw (z-is s) at (c .if1 .taken)))
 
 returns-2 : tie.Need-returns-2
 returns-2 c =
-    let s = c .before .before in
-    let h = sum (c .before) in
-    rw (w-is s) (record { inside = rw (w-is s) at (c .if2 .taken); exact = λ r e l. omega arith; moved = λ n. h })
-
-returns-3 : tie.Need-returns-3
-returns-3 c =
-    let s = c .before .before in
-    let h = sum (c .before) in
-    let b = rw (w-is s) at (c .if2 .left) in
-    record { inside = s .pre .0; exact = λ r e l. absurd (omega arith); moved = λ n. absurd (n refl) }
+    let s = c .before in
+    let a = s .args in
+    stayed (a .v) (P (a .k)) (N (a .k)) (a .size) (natAbs (z s)) (s .pre .0) (s .pre .1) (small s) (sum s) (rw (z-is s) at (c .if1 .left))
 
 pub next-spec : {M : Type 1} → statement M
-next-spec = tie.close (tie.spec cast-w cast-w-2 add-w returns cast-z returns-2 returns-3)
+next-spec = tie.close (tie.spec cast-w cast-w-2 add-w add-w-2 cast-w-3 returns returns-2)

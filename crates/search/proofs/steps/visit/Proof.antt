@@ -12,27 +12,18 @@ use borrow.Author.Needs.{needs}
 use Rattle.search.proofs.steps.visit.Statement.{statement}
 use Rattle.search.proofs.steps.visit.Tie as tie
 
-mul-wide16 : tie.Need-mul-wide16
-mul-wide16 c = search needs
-
-slice-read-wide16 : tie.Need-slice-read-wide16
-slice-read-wide16 c = search needs
-
-wide16-requires : tie.Need-wide16-requires
-wide16-requires c κs = search needs
-
 shared-slice-copy-out-next : tie.Need-shared-slice-copy-out-next
 shared-slice-copy-out-next c = search needs
 
 next-requires : tie.Need-next-requires
 next-requires c κs =
-    let s = c .before .before .before .before .before in
+    let s = c .before .before .before in
     let a = s .args in
-    (seat (a .k .now) (a .mark .now) (a .queue .now) (a .head) (a .p) (a .tail) (c .before .wide16 .result) (s .pre .0) (s .pre .1 .0 .0) (s .pre .1 .0 .1) (s .pre .1 .1) (c .before .wide16 .ensures), omega arith)
+    (seat (a .k .now) (a .mark .now) (a .queue .now) (a .head) (a .p) (a .tail) (a .v) (s .pre .0) (s .pre .1 .0 .0) (s .pre .1 .0 .1) (s .pre .1 .1) (s .pre .1 .0 .2), omega (arith, s .pre .0 .narrow))
 
 -- what `next` gives, for the coefficient that was read
-led : (c : tie.After-next) → Next (c .before .before .wide16 .result) (P (getD (c .before .before .before .before .before .before .args .k .now) (c .before .before .before .before .before .before .args .p) (pos 0))) (N (getD (c .before .before .before .before .before .before .args .k .now) (c .before .before .before .before .before .before .args .p) (pos 0))) (length (c .before .before .before .before .before .before .args .mark .now)) (c .next .result)
-led c = rw (toZ-ofZ {w = w8} {z = getD (c .before .before .before .before .before .before .args .k .now) (c .before .before .before .before .before .before .args .p) (pos 0)} (sfits-of (c .before .next-arg .given))) at (c .next .ensures)
+led : (c : tie.After-next) → Next (c .before .before .before .before .args .v) (P (getD (c .before .before .before .before .args .k .now) (c .before .before .before .before .args .p) (pos 0))) (N (getD (c .before .before .before .before .args .k .now) (c .before .before .before .before .args .p) (pos 0))) (length (c .before .before .before .before .args .mark .now)) (c .next .result)
+led c = rw (toZ-ofZ {w = w8} {z = getD (c .before .before .before .before .args .k .now) (c .before .before .before .before .args .p) (pos 0)} (sfits-of (c .before .next-arg .given))) at (c .next .ensures)
 
 slice-read-if1 : tie.Need-slice-read-if1
 slice-read-if1 c = search needs
@@ -54,9 +45,9 @@ mul-queue c = search needs
 
 slice-write-queue : tie.Need-slice-write-queue
 slice-write-queue c =
-    let s = c .before .before .before .before .before .before .before .before in
+    let s = c .before .before .before .before .before .before in
     let a = s .args in
-    place-left (a .k .now) (a .mark .now) (a .queue .now) (a .head) (a .p) (a .tail) _ (s .pre .0) (s .pre .1 .0 .0) (s .pre .1 .0 .1) (s .pre .1 .1) (c .before .before .before .before .wide16 .ensures) _ (led (c .before .before)) (c .if1 .taken)
+    place-left (a .k .now) (a .mark .now) (a .queue .now) (a .head) (a .p) (a .tail) (a .v) (s .pre .0) (s .pre .1 .0 .0) (s .pre .1 .0 .1) (s .pre .1 .1) (s .pre .1 .0 .2) _ (led (c .before .before)) (c .if1 .taken)
 
 add-result : tie.Need-add-result
 add-result c = search needs
@@ -69,23 +60,20 @@ same-length-2 c = search needs
 
 returns : tie.Need-returns
 returns c =
-    let s = c .before .before .before .before .before .before .before .before in
+    let s = c .before .before .before .before .before .before in
     let a = s .args in
-    fresh (a .k .now) (a .mark .now) (a .queue .now) (a .head) (a .p) (a .tail) _ (s .pre .0) (s .pre .1 .0 .0) (s .pre .1 .0 .1) (s .pre .1 .1) (c .before .before .before .before .wide16 .ensures) _ (led (c .before .before)) (c .if1 .taken)
+    fresh (a .k .now) (a .mark .now) (a .queue .now) (a .head) (a .p) (a .tail) (a .v) (s .pre .0) (s .pre .1 .0 .0) (s .pre .1 .0 .1) (s .pre .1 .1) (s .pre .1 .0 .2) _ (led (c .before .before)) (c .if1 .taken)
 
 returns-2 : tie.Need-returns-2
 returns-2 c =
-    let s = c .before .before .before .before .before .before .before .before in
+    let s = c .before .before .before .before .before .before in
     let a = s .args in
-    stale (a .k .now) (a .mark .now) (a .queue .now) (a .head) (a .p) (a .tail) _ (s .pre .0) (s .pre .1 .0 .0) (s .pre .1 .0 .1) (s .pre .1 .1) (c .before .before .before .before .wide16 .ensures) _ (led (c .before .before)) (c .if1 .left)
+    stale (a .k .now) (a .mark .now) (a .queue .now) (a .head) (a .p) (a .tail) (a .v) (s .pre .0) (s .pre .1 .0 .0) (s .pre .1 .0 .1) (s .pre .1 .1) (s .pre .1 .0 .2) _ (led (c .before .before)) (c .if1 .left)
 
 pub visit-spec : {M : Type 1} → statement M
 visit-spec =
     tie.close
     (tie.spec
-    mul-wide16
-    slice-read-wide16
-    wide16-requires
     shared-slice-copy-out-next
     next-requires
     slice-read-if1

@@ -1,0 +1,189 @@
+-- A row that has each coefficient once, and none of 0, gives the same answers: counts of equal coefficients are added up, and counts of the row are put back at their places.
+use mathlib.Core.Path.{_≡_, refl, sym, ap, ap₂, _∙_}
+use mathlib.Core.Logic.{_⊎_, inl, inr}
+use mathlib.Core.Bool.{Bool, true, false}
+use mathlib.Core.List.{List, [], _∷_, map}
+use Prim.Native.Nat.{ℕ, zero, suc, _+_, _*_, _≤_, _<_}
+use native.Mathlib.Numerals.{add-one}
+use native.Mathlib.Omega.{arith}
+use lib.IntN.{ℤ, pos}
+use lib.ListN.{length, getD, set, take, drop, replicate, length-set, length-replicate, List·getD-map, drop-of-length-le}
+use lib.Seq.{drop-cons, getD-take, length-take-le}
+use Rattle.signed.specs.Parts.{P, N, eq-out}
+use Rattle.nets.specs.HalfSpaces.{value}
+use Rattle.search.specs.Searched.{total, Hit}
+use Rattle.search.specs.Sum.{dot, ups, downs}
+use Rattle.search.specs.Table.{Looked}
+use Rattle.search.specs.Row.{Among, Kept, Inside, Spread, Over}
+use Rattle.search.proofs.Backward.{part, dot-zeros, total-zeros}
+use Rattle.search.proofs.Tied.{tied}
+
+-- the counts with a more at a place
+abbrev pub more : List ℕ → ℕ → ℕ → List ℕ
+more x p a = set x p (getD x p 0 + a)
+
+pub dot-plus : (f x : List ℕ) (p a : ℕ) → p < length x → dot f (more x p a) ≡ dot f x + getD f p 0 * a
+unfolding dot
+dot-plus [] x p a h = omega arith
+dot-plus (k ∷ f) [] p a h = absurd (omega arith)
+dot-plus (k ∷ f) (b ∷ x) zero a h = omega arith
+dot-plus (k ∷ f) (b ∷ x) (suc p) a h = omega (arith, dot-plus f x p a (omega arith))
+
+pub total-plus : (x : List ℕ) (p a : ℕ) → p < length x → total (more x p a) ≡ total x + a
+unfolding total
+total-plus [] p a h = absurd (omega arith)
+total-plus (b ∷ x) zero a h = omega arith
+total-plus (b ∷ x) (suc p) a h = omega (arith, total-plus x p a (omega arith))
+
+dot-none : (f : List ℕ) → dot f [] ≡ 0
+unfolding dot
+dot-none [] = refl
+dot-none (k ∷ f) = refl
+
+total-none : total [] ≡ 0
+unfolding total
+total-none = refl
+
+-- a row that adds up to 0 is zeros
+pub nothing-there : (x : List ℕ) → total x ≡ 0 → x ≡ replicate (length x) 0
+unfolding total
+nothing-there [] e = refl
+nothing-there (zero ∷ x) e = ap (λ (r : List ℕ). 0 ∷ r) (nothing-there x (omega arith))
+nothing-there (suc a ∷ x) e = absurd (omega arith)
+
+-- the values of f at the places
+abbrev at : List ℕ → List ℕ → List ℕ
+at f ps = map (λ (p : ℕ). getD f p 0) ps
+
+-- the counts from i on are still to be put back
+pub record Rest (ps y x : List ℕ) (i : ℕ) : Type 0 where
+  pub sums : (f : List ℕ) → dot f x + dot (at f (drop i ps)) (drop i y) ≡ dot (at f ps) y
+  pub amount : total x + total (drop i y) ≡ total y
+
+pub rest-start : (ps y x : List ℕ) → x ≡ replicate (length x) 0 → Rest ps y x 0
+rest-start ps y x e =
+    record {
+      sums = λ f. omega (arith, ap (dot f) e, dot-zeros f (length x));
+      amount = omega (arith, ap total e, total-zeros (length x));
+    }
+
+dot-first : (f ps y : List ℕ) (i : ℕ) → i < length ps → i < length y → dot (at f (drop i ps)) (drop i y) ≡ getD f (getD ps i 0) 0 * getD y i 0 + dot (at f (drop (suc i) ps)) (drop (suc i) y)
+unfolding dot
+dot-first f ps y i h k = rw (drop-cons ps i 0 h, drop-cons y i 0 k)
+
+total-first : (y : List ℕ) (i : ℕ) → i < length y → total (drop i y) ≡ getD y i 0 + total (drop (suc i) y)
+unfolding total
+total-first y i k = rw (drop-cons y i 0 k)
+
+pub rest-step : (ps y x : List ℕ) (i p : ℕ) → i < length ps → i < length y → p ≡ getD ps i 0 → p < length x → Rest ps y x i → Rest ps y (more x p (getD y i 0)) (i + 1)
+rest-step ps y x i p h k e l r =
+    rw (add-one i)
+    record {
+      sums = λ f. omega (arith, dot-plus f x p (getD y i 0) l, dot-first f ps y i h k, r .sums f, ap (λ (q : ℕ). getD f q 0 * getD y i 0) e);
+      amount = omega (arith, total-plus x p (getD y i 0) l, total-first y i k, r .amount);
+    }
+
+-- no more than the total is at any place, with what is to come
+pub rest-room : (ps y x : List ℕ) (i p : ℕ) → i < length y → Rest ps y x i → getD x p 0 + getD y i 0 ≤ total y
+rest-room ps y x i p k r = omega (arith, total-first y i k, r .amount, part x p)
+
+pub rest-end : (ps y x : List ℕ) (i : ℕ) → length y ≤ i → Rest ps y x i → Spread ps y x
+rest-end ps y x i h r =
+    let e = drop-of-length-le y h in
+    record {
+      sums = λ f. omega (arith, r .sums f, ap (dot (at f (drop i ps))) e, dot-none (at f (drop i ps)));
+      amount = omega (arith, r .amount, ap total e, total-none);
+    }
+
+-- an answer's counts are few
+pub within : (ks : List ℤ) (lo hi : ℤ) (y : List ℕ) (r : Bool) → Looked ks lo hi y r → total y ≤ 19900
+within ks lo hi y true l = l .bound
+within ks lo hi y false l = omega (arith, ap total (l .1), total-zeros (length ks))
+
+-- counts for the row of the same sums as z, and no more of them
+record Merged (cs ks : List ℤ) (z : List ℕ) : Type 0 where
+  pub y : List ℕ
+  pub places : length y ≡ length cs
+  pub sums : (f : ℤ → ℕ) → f (pos 0) ≡ 0 → dot (map f cs) y ≡ dot (map f ks) z
+  pub fewer : total y ≤ total z
+
+abbrev Covered : List ℤ → ℤ → Type 0
+Covered cs k = (k ≡ pos 0) ⊎ Among cs (length cs) k
+
+getD-map0 : (f : ℤ → ℕ) → f (pos 0) ≡ 0 → (ks : List ℤ) (p : ℕ) → getD (map f ks) p 0 ≡ f (getD ks p (pos 0))
+getD-map0 f o ks p = ap (λ (d : ℕ). getD (map f ks) p d) (sym o) ∙ List·getD-map f ks p (pos 0)
+
+-- one more coefficient and its count: a coefficient of 0 adds nothing, and any other's count goes to its place in the row
+merge-one : (cs : List ℤ) (k : ℤ) (ks : List ℤ) (a : ℕ) (z : List ℕ) → Covered cs k → Merged cs ks z → Merged cs (k ∷ ks) (a ∷ z)
+unfolding dot total
+merge-one cs k ks a z (inl o) m =
+    record {
+      y = m .y;
+      places = m .places;
+      sums = λ f e. omega (arith, m .sums f e, ap (λ (c : ℤ). f c * a) o, ap (λ (n : ℕ). n * a) e);
+      fewer = omega (arith, m .fewer);
+    }
+merge-one cs k ks a z (inr g) m =
+    let l : g .at < length (m .y) = omega (arith, g .below, m .places) in
+    record {
+      y = more (m .y) (g .at) a;
+      places = length-set (m .y) (g .at) (getD (m .y) (g .at) 0 + a) ∙ m .places;
+      sums = λ f e. omega (arith, m .sums f e, dot-plus (map f cs) (m .y) (g .at) a l, ap (λ (n : ℕ). n * a) (getD-map0 f e cs (g .at) ∙ ap f (g .is)));
+      fewer = omega (arith, m .fewer, total-plus (m .y) (g .at) a l);
+    }
+
+merge : (cs ks : List ℤ) (z : List ℕ) → ((q : ℕ) → q < length ks → Covered cs (getD ks q (pos 0))) → Merged cs ks z
+unfolding dot total
+merge cs [] z h = record { y = replicate (length cs) 0; places = length-replicate (length cs) 0; sums = λ f e. dot-zeros (map f cs) (length cs); fewer = omega (arith, total-zeros (length cs)) }
+merge cs (k ∷ ks) [] h = record { y = replicate (length cs) 0; places = length-replicate (length cs) 0; sums = λ f e. dot-zeros (map f cs) (length cs); fewer = omega (arith, total-zeros (length cs)) }
+merge cs (k ∷ ks) (a ∷ z) h = merge-one cs k ks a z (h 0 (omega arith)) (merge cs ks z (λ q l. h (suc q) (omega arith)))
+
+-- the same sums are the same value
+same-value : (ks cs : List ℤ) (x y : List ℕ) → dot (ups ks) x ≡ dot (ups cs) y → dot (downs ks) x ≡ dot (downs cs) y → value ks x ≡ value cs y
+same-value ks cs x y u d = eq-out (omega (arith, tied ks x, tied cs y))
+
+-- the coefficients at the places are the row
+told : (ks : List ℤ) (f : ℤ → ℕ) → f (pos 0) ≡ 0 → (row : List ℤ) (ps : List ℕ) (m : ℕ) → m ≤ length row → m ≤ length ps → ((i : ℕ) → i < m → getD row i (pos 0) ≡ getD ks (getD ps i 0) (pos 0)) → at (map f ks) (take m ps) ≡ map f (take m row)
+told ks f o row ps zero a b h = refl
+told ks f o [] ps (suc m) a b h = absurd (omega arith)
+told ks f o (c ∷ row) [] (suc m) a b h = absurd (omega arith)
+told ks f o (c ∷ row) (p ∷ ps) (suc m) a b h =
+    ap₂ {C = List ℕ} (λ (u : ℕ) (r : List ℕ). u ∷ r) (getD-map0 f o ks p ∙ ap f (sym (h 0 (omega arith)))) (told ks f o row ps m (omega arith) (omega arith) (λ i l. h (suc i) (omega arith)))
+
+-- the row's answer, put back, is the coefficients' answer
+module _ (ks row : List ℤ) (ps : List ℕ) (m : ℕ) (K : Kept ks row ps m (length ks)) (a : m ≤ length row) (b : m ≤ length ps) where
+  pub inside : Inside (take m ps) (length ks)
+  inside i l = let h : i < m = omega (arith, length-take-le m ps b) in omega (arith, getD-take m ps i 0 h, K .inside i h)
+
+  covered : (k : ℤ) → (k ≡ pos 0) ⊎ Among row m k → Covered (take m row) k
+  covered k (inl o) = inl o
+  covered k (inr g) = inr (record { at = g .at; below = omega (arith, g .below, length-take-le m row a); is = getD-take m row (g .at) (pos 0) (g .below) ∙ g .is })
+
+  merged : (z : List ℕ) → Merged (take m row) ks z
+  merged z = merge (take m row) ks z (λ q l. covered (getD ks q (pos 0)) (K .covers q l))
+
+  module _ (lo hi : ℤ) where
+    narrowed : (z : List ℕ) → Hit ks lo hi z → Hit (take m row) lo hi (merged z .y)
+    narrowed z h =
+        let g = merged z in
+        let e = same-value (take m row) ks (g .y) z (g .sums P refl) (g .sums N refl) in
+        record { places = g .places; low = rw e (h .low); high = rw e (h .high) }
+
+    module _ (x : List ℕ) (f : length x ≡ length ks) where
+      widened : (y : List ℕ) → Spread (take m ps) y x → Hit (take m row) lo hi y → Hit ks lo hi x
+      widened y s h =
+          let t : (g : ℤ → ℕ) → g (pos 0) ≡ 0 → dot (map g ks) x ≡ dot (map g (take m row)) y = λ g o. s .sums (map g ks) ∙ ap (λ (l : List ℕ). dot l y) (told ks g o row ps m a b (K .same)) in
+          let e = same-value ks (take m row) x y (t P refl) (t N refl) in
+          record { places = f; low = rw e (h .low); high = rw e (h .high) }
+
+      pub whole : (r : Bool) → Over (take m row) (take m ps) lo hi x r → Looked ks lo hi x r
+      whole true o =
+          record {
+            hits = widened (o .y) (o .spread) (o .looked .hits);
+            least = λ z h. omega (arith, o .spread .amount, o .looked .least (merged z .y) (narrowed z h), merged z .fewer);
+            bound = omega (arith, o .spread .amount, o .looked .bound);
+          }
+      whole false o = (
+        λ z h. o .looked .0 (merged z .y) (narrowed z h),
+        nothing-there x (o .spread .amount ∙ ap total (o .looked .1) ∙ total-zeros (length (take m row))) ∙ ap (λ (n : ℕ). replicate n 0) f,
+      )
