@@ -8,7 +8,7 @@ from checks import Checks
 from comparison import Case
 from make_sheets import damaged_sheets, random_bytes, sheets_of_every_size, sound_sheets
 from named_cases import named_cases
-from second.listing import listing
+from second.counts import first_line
 from second.sheet import Sheet, read, write
 
 # Showing all that a sheet holds takes some hundred times as long as its answer alone, so most are not shown.
@@ -45,8 +45,8 @@ def make_cases(checks: Checks) -> list[Case]:
 
 def named(checks: Checks) -> Iterable[Case]:
     for index, (name, data, line) in enumerate(named_cases()):
-        expected = listing(data)
-        checks.equal(f"{name}, second program against 01", data, line, expected.splitlines()[0])
+        expected = first_line(data)
+        checks.equal(f"{name}, second program against 01", data, line + "\n", expected)
         kind = "damaged" if line.startswith("refused") else "sound"
         yield Case(name, kind, data, expected, is_shown(index, name, data))
 
@@ -61,12 +61,12 @@ def sound(checks: Checks, name: str, sheets: list[Sheet], shown: int) -> Iterabl
     for index, sheet in enumerate(sheets):
         data = write(sheet)
         checks.equal(f"{name}, second program reads what it wrote", data, sheet, read(data))
-        yield Case(name, "sound", data, listing(data), shown=index < shown)
+        yield Case(name, "sound", data, first_line(data), shown=index < shown)
 
 
 def made(kind: str, sheets: list[bytes], shown: int) -> Iterable[Case]:
     for index, data in enumerate(sheets):
-        yield Case(f"{kind} sheet", kind, data, listing(data), shown=index < shown)
+        yield Case(f"{kind} sheet", kind, data, first_line(data), shown=index < shown)
 
 
 def for_answers(cases: list[Case]) -> list[Case]:
@@ -89,5 +89,5 @@ def for_judge(cases: list[Case]) -> list[Case]:
 
 
 def answer_name(case: Case) -> str:
-    first, second, *_ = case.listing.split()
+    first, second, *_ = case.first_line.split()
     return f"refusal {second}" if first == "refused" else "not refused"

@@ -1,5 +1,6 @@
 """Counts the checks that failed, and shows each."""
 
+from collections.abc import Callable
 from typing import NamedTuple
 
 MOST_FAILURES = 25  # a program that fails this often is not worth more output
@@ -41,3 +42,15 @@ class Checks:
         print(f"FAILED: {words}")
         if self.failed >= MOST_FAILURES:
             raise TooManyFailures
+
+
+def run_checks(*parts: Callable[[Checks], None]) -> int:
+    """The exit status of a program that makes these checks."""
+    checks = Checks()
+    try:
+        for part in parts:
+            part(checks)
+    except TooManyFailures:
+        print(f"stopped after {checks.failed} failures")
+    print(f"{checks.failed} checks failed" if checks.failed else "all checks passed")
+    return 1 if checks.failed else 0

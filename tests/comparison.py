@@ -12,7 +12,7 @@ class Case(NamedTuple):
     name: str
     kind: str  # how it was made: damage may by chance leave a sheet sound
     data: bytes
-    listing: str  # what judge must print
+    first_line: str
     shown: bool  # whether `answers` is to show all that the sheet holds
 
 
@@ -33,7 +33,7 @@ def differences(program: str, cases: list[Case], output: str) -> list[Failure]:
 
 
 def expected_answer(case: Case) -> str:
-    return case.listing + held(case.data) if case.shown else case.listing
+    return case.first_line + held(case.data) if case.shown else case.first_line
 
 
 def first_difference(expected: str, actual: str) -> tuple[str, str]:

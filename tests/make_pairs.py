@@ -4,20 +4,10 @@ from collections.abc import Callable, Sequence
 from itertools import product
 from random import Random
 
-from make_sheets import MOST_TOKENS, near_ends, random_claim, random_transition, several
+from make_parts import near_ends, random_claim, random_transition, several
+from second import limits
 from second.pairs import Pair, value
-from second.sheet import (
-    MOST_CLAIMS,
-    MOST_COEFFICIENT,
-    MOST_CONSTANT,
-    MOST_KIND,
-    MOST_PLACES,
-    MOST_TRANSITIONS,
-    MOST_WEIGHT,
-    Claim,
-    Sheet,
-    Transition,
-)
+from second.sheet import Claim, Sheet, Transition
 
 
 def random_pairs() -> list[tuple[str, Pair]]:
@@ -32,8 +22,8 @@ def random_pairs() -> list[tuple[str, Pair]]:
 def sheet_with(chance: Random, pair: Pair) -> tuple[Sheet, int, int]:
     """A sheet that has the pair among others, and the numbers of its claim and of its transition there."""
     n = len(pair.claim.coefficients)
-    claims = [random_claim(chance, n) for _ in range(some(chance, MOST_CLAIMS))]
-    transitions = [random_transition(chance, n) for _ in range(some(chance, MOST_TRANSITIONS))]
+    claims = [random_claim(chance, n) for _ in range(some(chance, limits.MOST_CLAIMS))]
+    transitions = [random_transition(chance, n) for _ in range(some(chance, limits.MOST_TRANSITIONS))]
     claim, transition = chance.randint(0, len(claims)), chance.randint(0, len(transitions))
     claims.insert(claim, pair.claim)
     transitions.insert(transition, pair.transition)
@@ -41,9 +31,9 @@ def sheet_with(chance: Random, pair: Pair) -> tuple[Sheet, int, int]:
         n=n,
         T=len(transitions),
         transitions=tuple(transitions),
-        start=several(chance, n, 0, MOST_TOKENS),
-        kind=chance.randint(0, MOST_KIND),
-        target=several(chance, n, 0, MOST_TOKENS),
+        start=several(chance, n, 0, limits.MOST_TOKENS),
+        kind=chance.randint(0, limits.MOST_KIND),
+        target=several(chance, n, 0, limits.MOST_TOKENS),
         claims=tuple(claims),
     )
     return sheet, claim + 1, transition + 1
@@ -59,11 +49,11 @@ def some(chance: Random, most: int) -> int:
 
 def some_places(chance: Random) -> int:
     """Mostly so few that markings can be tried."""
-    return chance.choice([1, 2, 2, 3, 3, 4]) if chance.random() < 0.85 else chance.randint(5, MOST_PLACES)
+    return chance.choice([1, 2, 2, 3, 3, 4]) if chance.random() < 0.85 else chance.randint(5, limits.MOST_PLACES)
 
 
 def above_zero(chance: Random, n: int) -> tuple[int, ...]:
-    most = chance.choice([3, 10, 30, MOST_COEFFICIENT])
+    most = chance.choice([3, 10, 30, limits.MOST_COEFFICIENT])
     return tuple(chance.randint(1, most) for _ in range(n))
 
 
@@ -72,7 +62,7 @@ def negated(values: Sequence[int]) -> tuple[int, ...]:
 
 
 def some_transition(chance: Random, n: int) -> Transition:
-    most = chance.choice([1, 2, 3, MOST_WEIGHT])
+    most = chance.choice([1, 2, 3, limits.MOST_WEIGHT])
     taken, put = (tuple(chance.randint(0, most) for _ in range(n)) for _ in range(2))
     return Transition(taken, put)
 
@@ -84,17 +74,23 @@ def falling(coefficients: Sequence[int], transition: Transition) -> Transition:
     return transition if falls else Transition(taken=put, put=taken)
 
 
+def rising(coefficients: Sequence[int], transition: Transition) -> Transition:
+    """The transition or its reverse, whichever doesn't lower the value."""
+    put, taken = falling(coefficients, transition)
+    return Transition(taken, put)
+
+
 def some_constant(chance: Random, coefficients: Sequence[int], transition: Transition) -> int:
     """Mostly one that puts an end of the window at a value or right beside it: there an error by one tells."""
     if chance.random() < 0.1:
-        return near_ends(chance, -MOST_CONSTANT, MOST_CONSTANT)
+        return near_ends(chance, -limits.MOST_CONSTANT, limits.MOST_CONSTANT)
     tokens = [chance.choice([0, 0, 0, 1, 2, 5]) for _ in coefficients]
     end = value(coefficients, tokens) + value(coefficients, chance.choice(transition))
     return in_range(end + chance.randint(-1, 2))
 
 
 def in_range(constant: int) -> int:
-    return max(-MOST_CONSTANT, min(MOST_CONSTANT, constant))
+    return max(-limits.MOST_CONSTANT, min(limits.MOST_CONSTANT, constant))
 
 
 def pair_with(chance: Random, coefficients: tuple[int, ...]) -> Pair:
@@ -141,10 +137,9 @@ def with_zeros(chance: Random) -> Pair:
 def oriented(chance: Random) -> Pair:
     """The value rises or, every other time, stays as it is."""
     coefficients = chance.choice([all_above_zero, all_below_zero, mixed_signs])(chance).claim.coefficients
-    put, taken = falling(coefficients, some_transition(chance, len(coefficients)))
+    transition = rising(coefficients, some_transition(chance, len(coefficients)))
     if chance.random() < 0.5:
-        put = taken
-    transition = Transition(taken, put)
+        transition = Transition(transition.taken, transition.taken)
     return Pair(Claim(coefficients, some_constant(chance, coefficients, transition)), transition)
 
 
@@ -172,13 +167,13 @@ def between_multiples(chance: Random) -> Pair:
 
     The values of so many tokens lie just below that multiple of the number, and the window between two such.
     """
-    n = chance.choice([2, 2, 3, 4, MOST_PLACES])
-    number = chance.randint(5, MOST_COEFFICIENT)
+    n = chance.choice([2, 2, 3, 4, limits.MOST_PLACES])
+    number = chance.randint(5, limits.MOST_COEFFICIENT)
     coefficients = [chance.randint(number - number // 8 - 1, number) for _ in range(n)]
     coefficients[0], coefficients[1] = number, number - chance.randint(1, number // 8 + 1)
     if n > 2 and chance.random() < 0.3:
         coefficients[-1] = 0
-    multiple = number * chance.randint(0, chance.choice([3, 10, MOST_CONSTANT // number]))
+    multiple = number * chance.randint(0, chance.choice([3, 10, limits.MOST_CONSTANT // number]))
     both = [chance.choice([0, 0, 0, 1, 2]) for _ in range(n)]  # taken and put alike
     more, less = (1, 0), (0, 1)
     if chance.random() < 0.5:
@@ -199,14 +194,14 @@ def far_window(chance: Random) -> Pair:
 
     The fifteen move the window as far away as it can be, and only the one brings a value there.
     """
-    coefficients = [-chance.choice([100, 100, 99]) for _ in range(MOST_PLACES - 1)]
-    taken, put = ([MOST_WEIGHT] * len(coefficients) for _ in range(2))
+    coefficients = [-chance.choice([100, 100, 99]) for _ in range(limits.MOST_PLACES - 1)]
+    taken, put = ([limits.MOST_WEIGHT] * len(coefficients) for _ in range(2))
     if chance.random() < 0.5:
-        chance.choice([taken, put])[chance.randrange(len(taken))] -= chance.choice([1, MOST_WEIGHT])
-    place, weight = chance.randrange(MOST_PLACES), chance.randint(1, MOST_WEIGHT)
+        chance.choice([taken, put])[chance.randrange(len(taken))] -= chance.choice([1, limits.MOST_WEIGHT])
+    place, weight = chance.randrange(limits.MOST_PLACES), chance.randint(1, limits.MOST_WEIGHT)
     for numbers, number in [(coefficients, chance.randint(1, 3)), (taken, weight), (put, weight - 1)]:
         numbers.insert(place, number)
-    constant = MOST_CONSTANT - margin(chance)
+    constant = limits.MOST_CONSTANT - margin(chance)
     if chance.random() < 0.5:
         return Pair(Claim(tuple(coefficients), constant), Transition(tuple(taken), tuple(put)))
     return Pair(Claim(negated(coefficients), -constant), Transition(tuple(put), tuple(taken)))
@@ -215,13 +210,13 @@ def far_window(chance: Random) -> Pair:
 def all_at_ends(chance: Random) -> Pair:
     """Sixteen places, and every number at an end of its range, but for a few."""
     signs = chance.choice([[-100, 100], [100], [-100], [-100, 100, 99, -1], [-1, 1]])
-    coefficients = tuple(chance.choices(signs, k=MOST_PLACES))
+    coefficients = tuple(chance.choices(signs, k=limits.MOST_PLACES))
     weights = chance.choice([[0, 9], [0, 0, 0, 9], [0, 9, 9, 8]])
-    taken, put = (tuple(chance.choices(weights, k=MOST_PLACES)) for _ in range(2))
+    taken, put = (tuple(chance.choices(weights, k=limits.MOST_PLACES)) for _ in range(2))
     transition = Transition(taken, put)
     if chance.random() < 0.8:
         transition = falling(coefficients, transition)
-    constant = chance.choice([-MOST_CONSTANT, MOST_CONSTANT]) if chance.random() < 0.8 else 0
+    constant = chance.choice([-limits.MOST_CONSTANT, limits.MOST_CONSTANT]) if chance.random() < 0.8 else 0
     return Pair(Claim(coefficients, constant), transition)
 
 

@@ -5,22 +5,9 @@ from dataclasses import replace
 from itertools import product
 from random import Random
 
-from second.sheet import (
-    MOST_CLAIMS,
-    MOST_COEFFICIENT,
-    MOST_CONSTANT,
-    MOST_KIND,
-    MOST_PLACES,
-    MOST_TRANSITIONS,
-    MOST_WEIGHT,
-    Claim,
-    Sheet,
-    Transition,
-    records,
-    write,
-)
-
-MOST_TOKENS = 65_535
+from make_parts import near_ends, random_claim, random_transition, several
+from second import limits
+from second.sheet import Claim, Sheet, Transition, records, write
 
 # Bytes that bring a reader of random bytes further than most bytes would.
 TELLING_BYTES = b"NPTRMKTGHS" + bytes([0, 1, 2, 9, 10, 16, 17, 64, 65, 100, 101, 127, 128, 155, 156, 255])
@@ -34,16 +21,17 @@ def sound_sheets(count: int) -> list[Sheet]:
 def sheets_of_every_size() -> list[Sheet]:
     """Each T with every other n, and claims by chance; then the ends of all three ranges with one another."""
     chance = Random("every size")
+    places, transitions, claims = limits.MOST_PLACES, limits.MOST_TRANSITIONS, limits.MOST_CLAIMS
     sizes = [
-        *((n, T, chance.randint(1, MOST_CLAIMS)) for T in range(MOST_TRANSITIONS + 1) for n in every_other_n(T)),
-        *(5 * list(product([1, MOST_PLACES], [0, MOST_TRANSITIONS], [1, MOST_CLAIMS]))),
+        *((n, T, chance.randint(1, claims)) for T in range(transitions + 1) for n in every_other_n(T)),
+        *(5 * list(product([1, places], [0, transitions], [1, claims]))),
     ]
     return [sheet_of_size(chance, *size) for size in sizes]
 
 
 def every_other_n(T: int) -> range:
     """The odd ones for an even T and the even ones for an odd T, so that all come in turn."""
-    return range(1 + T % 2, MOST_PLACES + 1, 2)
+    return range(1 + T % 2, limits.MOST_PLACES + 1, 2)
 
 
 def damaged_sheets(count: int) -> list[bytes]:
@@ -82,9 +70,9 @@ def random_sheet(chance: Random) -> Sheet:
     if chance.random() < 0.8:
         n, T, claims = chance.randint(1, 4), chance.randint(0, 4), chance.randint(1, 6)
     else:
-        n = near_ends(chance, 1, MOST_PLACES)
-        T = near_ends(chance, 0, MOST_TRANSITIONS)
-        claims = near_ends(chance, 1, MOST_CLAIMS)
+        n = near_ends(chance, 1, limits.MOST_PLACES)
+        T = near_ends(chance, 0, limits.MOST_TRANSITIONS)
+        claims = near_ends(chance, 1, limits.MOST_CLAIMS)
     return sheet_of_size(chance, n, T, claims)
 
 
@@ -93,29 +81,11 @@ def sheet_of_size(chance: Random, n: int, T: int, claims: int) -> Sheet:
         n=n,
         T=T,
         transitions=tuple(random_transition(chance, n) for _ in range(T)),
-        start=several(chance, n, 0, MOST_TOKENS),
-        kind=chance.randint(0, MOST_KIND),
-        target=several(chance, n, 0, MOST_TOKENS),
+        start=several(chance, n, 0, limits.MOST_TOKENS),
+        kind=chance.randint(0, limits.MOST_KIND),
+        target=several(chance, n, 0, limits.MOST_TOKENS),
         claims=tuple(random_claim(chance, n) for _ in range(claims)),
     )
-
-
-def random_transition(chance: Random, n: int) -> Transition:
-    return Transition(several(chance, n, 0, MOST_WEIGHT), several(chance, n, 0, MOST_WEIGHT))
-
-
-def random_claim(chance: Random, n: int) -> Claim:
-    coefficients = several(chance, n, -MOST_COEFFICIENT, MOST_COEFFICIENT)
-    return Claim(coefficients, near_ends(chance, -MOST_CONSTANT, MOST_CONSTANT))
-
-
-def several(chance: Random, count: int, low: int, high: int) -> tuple[int, ...]:
-    return tuple(near_ends(chance, low, high) for _ in range(count))
-
-
-def near_ends(chance: Random, low: int, high: int) -> int:
-    """Any number of the range, but its ends more often: that is where readers go wrong."""
-    return chance.choice([low, high]) if chance.random() < 0.5 else chance.randint(low, high)
 
 
 # Damage to what a sheet holds. Each of these gives the bytes of a sheet with that one fault.
@@ -123,13 +93,13 @@ def near_ends(chance: Random, low: int, high: int) -> int:
 
 def bad_size(chance: Random, sheet: Sheet) -> bytes:
     if chance.random() < 0.5:
-        return write(replace(sheet, n=chance.choice([0, above(chance, MOST_PLACES)])))
-    return write(replace(sheet, T=above(chance, MOST_TRANSITIONS)))
+        return write(replace(sheet, n=chance.choice([0, above(chance, limits.MOST_PLACES)])))
+    return write(replace(sheet, T=above(chance, limits.MOST_TRANSITIONS)))
 
 
 def bad_weight(chance: Random, sheet: Sheet) -> bytes:
     taken, put = random_transition(chance, sheet.n)
-    weight = above(chance, MOST_WEIGHT)
+    weight = above(chance, limits.MOST_WEIGHT)
     if chance.random() < 0.5:
         bad = Transition(exchanged(chance, taken, weight), put)
     else:
@@ -139,25 +109,25 @@ def bad_weight(chance: Random, sheet: Sheet) -> bytes:
 
 
 def bad_kind(chance: Random, sheet: Sheet) -> bytes:
-    return write(replace(sheet, kind=above(chance, MOST_KIND)))
+    return write(replace(sheet, kind=above(chance, limits.MOST_KIND)))
 
 
 def bad_coefficient(chance: Random, sheet: Sheet) -> bytes:
     coefficients, constant = random_claim(chance, sheet.n)
-    wrong = beyond(chance, MOST_COEFFICIENT, 127)
+    wrong = beyond(chance, limits.MOST_COEFFICIENT, 127)
     bad = Claim(exchanged(chance, coefficients, wrong), constant)
     return write(replace(sheet, claims=exchanged(chance, sheet.claims, bad)))
 
 
 def bad_constant(chance: Random, sheet: Sheet) -> bytes:
     coefficients, _ = random_claim(chance, sheet.n)
-    bad = Claim(coefficients, beyond(chance, MOST_CONSTANT, 32_767))
+    bad = Claim(coefficients, beyond(chance, limits.MOST_CONSTANT, 32_767))
     return write(replace(sheet, claims=exchanged(chance, sheet.claims, bad)))
 
 
 def too_many_claims(chance: Random, sheet: Sheet) -> bytes:
     """33 claims or a few more, the last perhaps cut short."""
-    count = MOST_CLAIMS + chance.choice([1, 1, 2, 5])
+    count = limits.MOST_CLAIMS + chance.choice([1, 1, 2, 5])
     whole = write(replace(sheet, claims=tuple(chance.choices(sheet.claims, k=count))))
     return whole[: len(whole) - chance.choice([0, chance.randrange(4 + sheet.n)])]
 

@@ -4,9 +4,11 @@ from itertools import repeat
 from typing import NamedTuple
 
 from checks import Failure
+from programs import framed
 from second.held import row
+from second.limits import MOST_PLACES
 from second.pairs import Pair, Vector, bad_marking, is_shown, pair_asked, small_bad_markings, value
-from second.sheet import MOST_PLACES, Refusal
+from second.sheet import Refusal
 
 # Entries of the two areas, by the byte of a question that says which.
 AREA_SIZES = [(20_000, 20_000), (19_999, 20_000), (20_000, 19_999), (20_008, 20_008), (0, 0)]
@@ -36,10 +38,8 @@ class Answer(NamedTuple):
 
 def frame(question: Question) -> bytes:
     """A question as `questions` takes it."""
-    numbers = [question.claim, question.transition, question.areas, len(question.data)]
-    sizes = [2, 2, 1, 2]
-    head = b"".join(number.to_bytes(size, "little") for number, size in zip(numbers, sizes))
-    return head + question.data
+    numbers = [(question.claim, 2), (question.transition, 2), (question.areas, 1)]
+    return b"".join(number.to_bytes(size, "little") for number, size in numbers) + framed(question.data)
 
 
 def second_answer(question: Question) -> Answer:
@@ -53,7 +53,7 @@ def second_answer(question: Question) -> Answer:
 
 def words(answer: Answer) -> str:
     if isinstance(answer.asked, Refusal):
-        return f"refused {answer.asked.number} at {answer.asked.detail}"
+        return answer.asked.words()
     return "broken" if answer.bad else "kept"
 
 

@@ -23,9 +23,18 @@ def command(name: str) -> list[str]:
     return [str(ROOT / "scripts" / "program"), name]
 
 
+def framed(data: bytes) -> bytes:
+    """A sheet among others on standard input: its length and the sheet."""
+    return len(data).to_bytes(2, "little") + data
+
+
 def run(name: str, time_limit: float = TIME_LIMIT, **standard_input) -> str:
+    return output_of(command(name), time_limit, **standard_input)
+
+
+def output_of(line: list[str], time_limit: float, **standard_input) -> str:
     """Standard output, with a word on an end that isn't the program's own."""
-    ended = finished(command(name), time_limit, stdout=subprocess.PIPE, **standard_input)
+    ended = finished(line, time_limit, stdout=subprocess.PIPE, **standard_input)
     return with_end(ended.stdout, ended.returncode)
 
 

@@ -15,13 +15,15 @@ from collections import Counter
 from concurrent.futures import ProcessPoolExecutor
 
 from cases import answer_name, for_answers, for_judge, make_cases
-from checks import Checks, Failure, TooManyFailures
+from checks import Checks, Failure, run_checks
 from comparison import Case, differences
 from pair_tests import compare_pairs
-from programs import BATCH_TIME_LIMIT, WORKERS, batches, run
+from programs import BATCH_TIME_LIMIT, WORKERS, batches, framed, run
 from second_by_hand import check_second_program
 from self_check import check_tests_can_fail
 from streams import check_streams
+from verdicts_by_hand import check_verdicts_by_hand
+from walks_by_hand import check_walks_by_hand
 
 BATCHES = 40
 MEMORY_LIMIT = 4 << 30  # bytes, so that a judge that reads an endless input to its end harms nobody
@@ -50,8 +52,8 @@ def compare_answers(cases: list[Case]) -> list[Failure]:
 
 
 def frame(case: Case) -> bytes:
-    """A sheet as `answers` takes it: whether to show all that it holds, its length and the sheet."""
-    return bytes([case.shown]) + len(case.data).to_bytes(2, "little") + case.data
+    """A sheet as `answers` takes it: first whether to show all that it holds."""
+    return bytes([case.shown]) + framed(case.data)
 
 
 def compare_judge(case: Case) -> list[Failure]:
@@ -86,7 +88,7 @@ def check_coverage(checks: Checks, cases: list[Case], judged: list[Case]) -> Non
 
 def check_sizes_shown(checks: Checks, shown: list[Case]) -> None:
     """A fault may need many places, transitions or claims before it tells."""
-    sizes = [case.listing.split()[1:6:2] for case in shown if answer_name(case) == "not refused"]
+    sizes = [case.first_line.split()[1:6:2] for case in shown if answer_name(case) == "not refused"]
     checks.at_least("pairs of n and T shown", 65 * 8, len({(n, T) for n, T, _ in sizes}))
     checks.at_least("counts of claims shown", 32, len({claims for _, _, claims in sizes}))
     checks.at_least("sheets of the largest size shown", 5, sizes.count(["16", "64", "32"]))
@@ -95,16 +97,14 @@ def check_sizes_shown(checks: Checks, shown: list[Case]) -> None:
 def main() -> int:
     resource.setrlimit(resource.RLIMIT_AS, (MEMORY_LIMIT, MEMORY_LIMIT))
     check_tests_can_fail()
-    checks = Checks()
-    try:
-        check_second_program(checks)
-        check_streams(checks)
-        compare_sheets(checks)
-        compare_pairs(checks)
-    except TooManyFailures:
-        print(f"stopped after {checks.failed} failures")
-    print(f"{checks.failed} checks failed" if checks.failed else "all checks passed")
-    return 1 if checks.failed else 0
+    return run_checks(
+        check_second_program,
+        check_verdicts_by_hand,
+        check_walks_by_hand,
+        check_streams,
+        compare_sheets,
+        compare_pairs,
+    )
 
 
 if __name__ == "__main__":

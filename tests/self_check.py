@@ -3,24 +3,37 @@
 What fails here is raised, because the means to report it are what is in doubt.
 """
 
+from collections import Counter
 from collections.abc import Callable
 from contextlib import redirect_stdout
 from io import StringIO
+from unittest.mock import patch
 
+import listing_comparison
 import pair_comparison
+import walk_comparison
 from checks import Checks, Failure
 from comparison import Case, differences, expected_answer
 from named_cases import FIRST, HEAD, SMALLEST
 from pair_cases import CASES as PAIRS
 from pair_cases import EMPTY, ENOUGH, sheet_of
 from pair_comparison import Question, second_answer, second_faults
-from second.listing import listing
-from second.sheet import write
+from second.counts import first_line
+from second.sheet import read, write
+from wrong_outputs import (
+    LISTED,
+    OTHER_RIGHT_TOKENS,
+    RIGHT_LISTINGS,
+    RIGHT_WALKS,
+    WALKED,
+    WRONG_LISTINGS,
+    WRONG_WALKS,
+)
 
 CASES = [
-    Case("first sheet", "sound", FIRST, listing(FIRST), shown=True),
-    Case("sheet without a claim", "damaged", HEAD, listing(HEAD), shown=True),
-    Case("smallest sheet", "sound", SMALLEST, listing(SMALLEST), shown=False),
+    Case("first sheet", "sound", FIRST, first_line(FIRST), shown=True),
+    Case("sheet without a claim", "damaged", HEAD, first_line(HEAD), shown=True),
+    Case("smallest sheet", "sound", SMALLEST, first_line(SMALLEST), shown=False),
 ]
 START = "start fine 2 0" + 14 * " 0" + "\n"
 LAST = "places 1 transitions 0 claims 1\n"
@@ -102,10 +115,32 @@ def check_tests_can_fail() -> None:
         demand(f"{tokens} passes too", not pair_failures(KEPT + BROKEN.replace("2 1", tokens) + REFUSED))
     for name, index, bad in WRONG_SECOND:
         demand(f"{name} is reported", second_faults(QUESTIONS[index], ANSWERS[index]._replace(bad=bad)))
+    check_reported(listing_failures, RIGHT_LISTINGS, WRONG_LISTINGS)
+    for tokens in OTHER_RIGHT_TOKENS:
+        other = RIGHT_LISTINGS.replace("broken 2 2 1\n", f"broken 2 {tokens}\n")
+        demand(f"{tokens} in a listing passes too", other != RIGHT_LISTINGS and not listing_failures(other))
+    check_reported(walk_failures, RIGHT_WALKS, WRONG_WALKS)
+    demand("the second program agrees with itself", not failures_found_again())
+    with patch("second.sums.some_sum", return_value=False):
+        demand("second program: proof for broken, found another way", failures_found_again())
 
 
 def pair_failures(output: str) -> list[Failure]:
     return pair_comparison.differences(QUESTIONS, ANSWERS, output)
+
+
+def listing_failures(output: str) -> list[Failure]:
+    return listing_comparison.differences(LISTED, output)
+
+
+def failures_found_again() -> list[Failure]:
+    compared = listing_comparison.Compared([], Counter(), Counter())
+    listing_comparison.find_again(LISTED[0], read(LISTED[0].data), compared)
+    return compared.failures
+
+
+def walk_failures(output: str) -> list[Failure]:
+    return walk_comparison.differences([walk for walk, _ in WALKED], output)
 
 
 def check_reported(find: Callable[[str], list[Failure]], right: str, wrong: list[tuple[str, bytes, str, str]]) -> None:

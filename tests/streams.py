@@ -8,7 +8,7 @@ from signal import SIGPIPE
 from checks import Checks
 from named_cases import FIRST, HEAD, HS, LARGEST, LARGEST_HS
 from programs import command, finished, run, run_in_pieces, with_end
-from second.listing import listing
+from second.counts import first_line
 
 
 def check_streams(checks: Checks) -> None:
@@ -26,7 +26,7 @@ def check_files(checks: Checks) -> None:
         descriptor = os.memfd_create("sheet")
         os.write(descriptor, data)
         os.lseek(descriptor, 0, os.SEEK_SET)
-        checks.equal("sheet in a file", data, listing(data), run("judge", stdin=descriptor))
+        checks.equal("sheet in a file", data, first_line(data), run("judge", stdin=descriptor))
         os.close(descriptor)
 
 
@@ -45,8 +45,8 @@ def check_pieces(checks: Checks) -> None:
         ([LARGEST, b"H", LARGEST_HS[1:]], "refused 8 at 2889"),
     ]:
         data = b"".join(pieces)
-        expected = listing(data)
-        checks.equal("sheet in pieces, second program against 01", data, line, expected.splitlines()[0])
+        expected = first_line(data)
+        checks.equal("sheet in pieces, second program against 01", data, line + "\n", expected)
         checks.equal("sheet in pieces", data, expected, run_in_pieces("judge", pieces, pause=0.01))
 
 

@@ -2,18 +2,8 @@
 
 from collections.abc import Sequence
 
-from second.sheet import (
-    MOST_CLAIMS,
-    MOST_PLACES,
-    MOST_TRANSITIONS,
-    Claim,
-    Refusal,
-    Sheet,
-    Transition,
-    claim_record,
-    outside,
-    read,
-)
+from second.limits import MOST_CLAIMS, MOST_PLACES, MOST_TRANSITIONS
+from second.sheet import Claim, Refusal, Sheet, Transition, claim_record, outside, read
 
 # What a refused call holds: zeros alone, the first kind and an empty record.
 NO_SHEET = Sheet(n=0, T=0, transitions=(), start=(), kind=0, target=(), claims=())
@@ -52,7 +42,7 @@ def _claim_line(sheet: Sheet, refused: Refusal | None, number: int) -> str:
 
 
 def _check(refused: Refusal | None) -> str:
-    return f"refused {refused.number} at {refused.detail}" if refused else "fine"
+    return refused.words() if refused else "fine"
 
 
 def row(values: Sequence[int]) -> str:

@@ -1,15 +1,14 @@
 """Decides whether a transition keeps a half space: by trying markings, and exactly. Quoted sentences are 01's."""
 
 from collections.abc import Sequence
+from functools import lru_cache
 from heapq import heappop, heappush
 from itertools import product
 from operator import add, ge, mul
 from typing import NamedTuple
 
+from second.limits import AREA_SIZE, MOST_SHOWN
 from second.sheet import Claim, Refusal, Transition, outside, read
-
-AREA_SIZE = 20_000  # entries that each work area must have
-MOST_SHOWN = 20_000  # tokens of a shown bad marking in any place
 
 Vector = tuple[int, ...]
 
@@ -46,10 +45,23 @@ def is_bad(pair: Pair, marking: Sequence[int]) -> bool:
     return value(coefficients, fired) < constant
 
 
+def may_be_shown(pair: Pair, tokens: Sequence[int]) -> bool:
+    """One number for each place, bad, and "at most 20,000 tokens in any place"."""
+    return len(tokens) == len(pair.claim.coefficients) and max(tokens) <= MOST_SHOWN and is_bad(pair, tokens)
+
+
 def is_shown(pair: Pair, numbers: Sequence[int]) -> bool:
-    """Bad, "at most 20,000 tokens in any place", and "held as 16 numbers, zero beyond place n"."""
+    """May be shown, and is "held as 16 numbers, zero beyond place n"."""
     n = len(pair.claim.coefficients)
-    return max(numbers) <= MOST_SHOWN and not any(numbers[n:]) and is_bad(pair, numbers[:n])
+    return not any(numbers[n:]) and may_be_shown(pair, numbers[:n])
+
+
+def window(pair: Pair) -> tuple[int, int]:
+    """The ends of 01's Theorem 1: the bad markings are the weights taken plus the vectors with a value from
+    the first to the second. Where the first is above the second there is none.
+    """
+    (coefficients, constant), (taken, put) = pair
+    return constant - value(coefficients, taken), constant - value(coefficients, put) - 1
 
 
 def small_bad_markings(pair: Pair, most: int) -> list[Vector]:
@@ -59,23 +71,20 @@ def small_bad_markings(pair: Pair, most: int) -> list[Vector]:
 
 
 def bad_marking(pair: Pair) -> Vector | None:
-    """A bad marking, or None exactly if there is none of any size.
-
-    By 01's Theorem 1 the bad markings are the weights taken plus the vectors whose value is in a window.
-    """
-    (coefficients, constant), (taken, put) = pair
-    low, high = constant - value(coefficients, taken), constant - value(coefficients, put) - 1
+    """A bad marking, or None exactly if there is none of any size."""
+    coefficients, taken = pair.claim.coefficients, pair.transition.taken
+    low, high = window(pair)
     if low > high:
         return None
     # The values of taken and put differ here, so some coefficient isn't zero.
     if max(coefficients) > 0:
         vector = _vector_between(coefficients, low, high)
     else:
-        vector = _vector_between([-coefficient for coefficient in coefficients], -high, -low)
+        vector = _vector_between(tuple(-coefficient for coefficient in coefficients), -high, -low)
     return None if vector is None else tuple(map(add, taken, vector))
 
 
-def _vector_between(coefficients: Sequence[int], low: int, high: int) -> Vector | None:
+def _vector_between(coefficients: Vector, low: int, high: int) -> Vector | None:
     """A vector with a value from low to high, or None if there is none; some coefficient is above zero.
 
     More tokens in the place of the base raise a value and leave its residue. So without a coefficient below
@@ -96,7 +105,8 @@ def _vector_between(coefficients: Sequence[int], low: int, high: int) -> Vector 
     return None
 
 
-def _least_of_each_residue(coefficients: Sequence[int], base: int) -> dict[int, Vector]:
+@lru_cache(maxsize=64)  # a claim is asked about with one transition after the other
+def _least_of_each_residue(coefficients: Vector, base: int) -> dict[int, Vector]:
     """For each residue modulo the base that a value can have, the vector that has it at the least cost.
 
     A token costs the size of its coefficient, so the cost is the value where none is below zero. No step costs

@@ -4,13 +4,7 @@ from collections.abc import Iterable
 from dataclasses import dataclass
 from typing import NamedTuple
 
-MOST_PLACES = 16
-MOST_TRANSITIONS = 64
-MOST_CLAIMS = 32
-MOST_WEIGHT = 9
-MOST_KIND = 1
-MOST_COEFFICIENT = 100
-MOST_CONSTANT = 5_000
+from second import limits
 
 
 class Transition(NamedTuple):
@@ -39,6 +33,9 @@ class Refusal(NamedTuple):
     number: int
     detail: int
 
+    def words(self) -> str:
+        return f"refused {self.number} at {self.detail}"
+
 
 def outside(number: int, count: int, refusal: int) -> Refusal | None:
     """11 and 12: "number 0 or above the count"; the detail is "that number"."""
@@ -63,20 +60,20 @@ def read(data: bytes) -> Sheet | Refusal:
 def _read_records(data: bytes) -> Sheet:
     """NP, TR, MK, TG, HS: "the records are, in this order", each with its fields."""
     fields = _record(data, 0, b"NP", 4)
-    n = _checked_byte(data, fields[0], 1, MOST_PLACES, 3)
-    T = _checked_byte(data, fields[1], 0, MOST_TRANSITIONS, 3)
+    n = _checked_byte(data, fields[0], 1, limits.MOST_PLACES, 3)
+    T = _checked_byte(data, fields[1], 0, limits.MOST_TRANSITIONS, 3)
 
     transitions = []
     for _ in range(T):
         fields = _record(data, fields.stop, b"TR", 2 + 2 * n)
-        weights = tuple(_checked_byte(data, at, 0, MOST_WEIGHT, 4) for at in fields)
+        weights = tuple(_checked_byte(data, at, 0, limits.MOST_WEIGHT, 4) for at in fields)
         transitions.append(Transition(taken=weights[:n], put=weights[n:]))
 
     fields = _record(data, fields.stop, b"MK", 2 + 2 * n)
     start = _tokens(data, fields)
 
     fields = _record(data, fields.stop, b"TG", 3 + 2 * n)
-    kind = _checked_byte(data, fields[0], 0, MOST_KIND, 5)
+    kind = _checked_byte(data, fields[0], 0, limits.MOST_KIND, 5)
     target = _tokens(data, fields[1:])
 
     # 9: "no byte remains after TG"; its detail is "the sheet's length".
@@ -86,7 +83,7 @@ def _read_records(data: bytes) -> Sheet:
     # "Wherever a byte remains after a claim's record, the 32nd too, a claim's mark must stand".
     claims = []
     while fields.stop < len(data):
-        fields = _record(data, fields.stop, b"HS", 4 + n, full=len(claims) == MOST_CLAIMS)
+        fields = _record(data, fields.stop, b"HS", 4 + n, full=len(claims) == limits.MOST_CLAIMS)
         claims.append(_claim(data, fields))
 
     return Sheet(n, T, tuple(transitions), start, kind, target, tuple(claims))
@@ -124,8 +121,8 @@ def _tokens(data: bytes, fields: range) -> tuple[int, ...]:
 
 def _claim(data: bytes, fields: range) -> Claim:
     """A claim's fields: "n coefficients, one byte each, then the constant, two bytes"."""
-    coefficients = tuple(_checked_signed(data, at, 1, MOST_COEFFICIENT, 6) for at in fields[:-2])
-    constant = _checked_signed(data, fields[-2], 2, MOST_CONSTANT, 7)
+    coefficients = tuple(_checked_signed(data, at, 1, limits.MOST_COEFFICIENT, 6) for at in fields[:-2])
+    constant = _checked_signed(data, fields[-2], 2, limits.MOST_CONSTANT, 7)
     return Claim(coefficients, constant)
 
 

@@ -1,0 +1,22 @@
+"""Counts with a row and a column, and how they are shown."""
+
+from collections import Counter
+
+Table = Counter[tuple[str, str]]
+
+
+def shown(title: str, table: Table, columns: list[str]) -> str:
+    """One line for each row in the order of its first count, and one for all; columns stand where a row has any."""
+    rows = list(dict.fromkeys(row for row, _ in table))
+    lines = [f"  {row}: {counted(table, row, columns)}" for row in rows]
+    all_rows = {column: column_total(table, column) for column in columns}
+    total = ", ".join(f"{column} {all_rows[column]:,}" for column in columns)
+    return "\n".join([f"{title}: {total}", *lines])
+
+
+def counted(table: Table, row: str, columns: list[str]) -> str:
+    return ", ".join(f"{column} {table[row, column]:,}" for column in columns if table[row, column])
+
+
+def column_total(table: Table, column: str) -> int:
+    return sum(count for (_, other), count in table.items() if other == column)

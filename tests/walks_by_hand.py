@@ -1,0 +1,68 @@
+"""Holds the second program to document 01: walks, written by hand."""
+
+from checks import Checks
+from make_walks import Walk
+from named_cases import FIRST, HEAD, MIDDLE, hexed
+from second.limits import MOST_TOKENS
+from walk_comparison import answer_lines
+
+# One place, which is full. The first transition takes one and puts one, the second takes none and puts one.
+FULL = hexed("4E 50 01 02", "54 52 01 01", "54 52 00 01", "4D 4B FF FF", "54 47 00 00 00", "48 53 00 00 00")
+
+
+def check_walks_by_hand(checks: Checks) -> None:
+    for walk, lines in WALKS:
+        checks.equal(f"walk, {walk.kind}, second program against 01", walk.data, lines, answer_lines(walk))
+
+
+def by_hand(kind: str, data: bytes, marking: str, steps: list[int], *lines: str) -> tuple[Walk, list[str]]:
+    """The last of a marking's tokens given here is followed by zeros, in the lines too."""
+    tokens = tuple(map(int, filled(marking, 0).split()))
+    start, *others = lines
+    first = start if start.startswith("refused") else filled(start, 1)
+    return Walk(kind, data, tokens, tuple(steps)), [first, *(filled(line, words_before(line)) for line in others)]
+
+
+def words_before(line: str) -> int:
+    """How many words stand before the tokens."""
+    return 4 if line.startswith("refused") else 1
+
+
+def filled(line: str, before: int) -> str:
+    return line + (16 + before - len(line.split())) * " 0"
+
+
+TOP = MOST_TOKENS
+MORE = "7 65535" + 12 * " 9"  # in the fourteen places beyond place 2
+
+WALKS = [
+    by_hand("01's", FIRST, "2", [1, 1, 1], "start 2", "moved 1 1", "moved 0 2", "refused 15 at 1 0 2"),
+    by_hand("a full place", FULL, "65535", [1, 2], "start 65535", "moved 65535", "refused 16 at 1 65535"),
+    by_hand("up to full", FULL, "65534", [2, 2], "start 65535", "moved 65535", "refused 16 at 1 65535"),
+    by_hand("an empty place", FULL, "0", [1, 2, 1], "start 65535", "refused 15 at 1 0", "moved 1", "moved 1"),
+    by_hand(
+        "numbers that there aren't",
+        FIRST,
+        "2",
+        [0, 2, 257, 65_535, 1],
+        "start 2",
+        "refused 12 at 0 2",
+        "refused 12 at 2 2",
+        "refused 12 at 257 2",
+        "refused 12 at 65535 2",
+        "moved 1 1",
+    ),
+    by_hand("beyond n", FIRST, f"1 0 {MORE}", [1, 1], "start 2", f"moved 0 1 {MORE}", f"refused 15 at 1 0 1 {MORE}"),
+    by_hand("16 in the second place", FIRST, f"1 {TOP}", [1], "start 2", f"refused 16 at 2 1 {TOP}"),
+    by_hand("15 before 16", FIRST, f"0 {TOP}", [1], "start 2", f"refused 15 at 1 0 {TOP}"),
+    # The second takes 9, 8 and 7 and puts 6, 5 and 4; the first takes 0, 1 and 2 and puts 3, 4 and 5.
+    by_hand("two short", MIDDLE, "9 7 6", [2, 1], "start 0 1 65535", "refused 15 at 2 9 7 6", "moved 12 10 9"),
+    by_hand("just enough", MIDDLE, "9 8 7", [2, 2], "start 0 1 65535", "moved 6 5 4", "refused 15 at 1 6 5 4"),
+    by_hand("all pass", MIDDLE, "65533 65533 65533", [1], "start 0 1 65535", "refused 16 at 1 65533 65533 65533"),
+    by_hand("two pass", MIDDLE, "65532 65533 65533", [1], "start 0 1 65535", "refused 16 at 2 65532 65533 65533"),
+    by_hand("none passes", MIDDLE, "65532 65532 65532", [1], "start 0 1 65535", "moved 65535 65535 65535"),
+    by_hand("no step", FIRST, "5 6 7", [], "start 2"),
+    by_hand("empty sheet", b"", "1 2 3", [1, 0], "refused 1 at 0", "refused 1 at 0 1 2 3", "refused 1 at 0 1 2 3"),
+    by_hand("sheet of one byte", b"N", "1", [1], "refused 1 at 0", "refused 1 at 0 1"),
+    by_hand("sheet without a claim", HEAD, "2", [1, 2], "refused 9 at 23", "refused 9 at 23 2", "refused 9 at 23 2"),
+]

@@ -1,0 +1,107 @@
+"""Right outputs of `listings` and `walks`, and wrong ones that must be reported."""
+
+from make_listings import Made
+from named_cases import FIRST, HEAD
+from pair_cases import T_OF_004
+from second.sheet import Claim, Sheet, Transition, write
+from verdicts_by_hand import LISTING_OF_01
+from walks_by_hand import FULL, WALKS
+
+# The second transition is 01's case j, which has many bad markings; the first moves nothing.
+CASE_J = write(
+    Sheet(
+        n=2,
+        T=2,
+        transitions=(Transition((1, 0), (1, 0)), T_OF_004),
+        start=(2, 1),
+        kind=0,
+        target=(0, 1),
+        claims=(Claim((2, -3), 0), Claim((4, -6), 0)),
+    )
+)
+LISTED = [Made("by hand", data) for data in [FIRST, HEAD, CASE_J]]
+LISTING_OF_J = "places 2 transitions 2 claims 2\nclaim 1 broken 2 2 1\nclaim 2 broken 2 3 2 twin 1\n.\n"
+RIGHT_LISTINGS = f"{LISTING_OF_01}.\nrefused 9 at 23\n.\n{LISTING_OF_J}"
+
+CLAIM_1, CLAIM_2 = "claim 1 proof\n", "claim 2 start-outside\n"
+
+OTHER_RIGHT_TOKENS = ["3 2", "20000 13333"]  # for claim 1 of case j
+
+# What is wrong, the sheet that it is wrong for, the right words and the wrong ones.
+WRONG_LISTINGS = [
+    ("a count", FIRST, "claims 5\n", "claims 4\n"),
+    # Its target is inside too, so this is the order of the verdicts.
+    ("target-inside before start-outside", FIRST, "claim 2 start-outside", "claim 2 target-inside"),
+    ("proof for target-inside", FIRST, "claim 3 target-inside", "claim 3 proof"),
+    ("broken for proof", FIRST, "claim 1 proof", "claim 1 broken 1 2 0"),
+    ("proof for broken", FIRST, "claim 4 broken 1 1 0", "claim 4 proof"),
+    ("a claim's number", FIRST, "claim 3", "claim 4"),
+    ("two lines exchanged", FIRST, f"{CLAIM_1}{CLAIM_2}", f"{CLAIM_2}{CLAIM_1}"),
+    ("a missing twin", FIRST, "proof twin 1", "proof"),
+    ("a twin too many", FIRST, "broken 1 1 0", "broken 1 1 0 twin 1"),
+    ("another twin", FIRST, "proof twin 1", "proof twin 4"),
+    ("a missing claim", FIRST, "claim 5 proof twin 1\n", ""),
+    ("a claim too many", FIRST, "claim 5 proof twin 1\n", "claim 5 proof twin 1\nclaim 6 proof\n"),
+    ("a space at a line's end", FIRST, "claim 1 proof\n", "claim 1 proof \n"),
+    ("another line's end", FIRST, "claim 1 proof\n", "claim 1 proof\r\n"),
+    ("a missing newline", FIRST, "claim 1 proof\n", "claim 1 proof "),
+    ("an empty line", FIRST, "claim 1 proof\n", "claim 1 proof\n\n"),
+    ("a capital", FIRST, "claim 1 proof", "Claim 1 proof"),
+    ("a refusal's number", HEAD, "refused 9 at 23", "refused 1 at 23"),
+    ("a detail", HEAD, "refused 9 at 23", "refused 9 at 24"),
+    ("words before a refusal", HEAD, "refused 9 at 23", "places 2 transitions 1 claims 0\nrefused 9 at 23"),
+    ("a refusal not printed", HEAD, "refused 9 at 23\n", ""),
+    ("another transition", CASE_J, "broken 2 2 1\n", "broken 1 2 1\n"),
+    ("a marking that isn't inside", CASE_J, "broken 2 2 1\n", "broken 2 2 2\n"),
+    ("a marking that stays inside", CASE_J, "broken 2 2 1\n", "broken 2 4 1\n"),
+    ("a marking that isn't enabled", CASE_J, "broken 2 2 1\n", "broken 2 1 0\n"),
+    ("a bad marking with 20,001 tokens", CASE_J, "broken 2 2 1\n", "broken 2 20001 13334\n"),
+    ("a marking too short", CASE_J, "broken 2 2 1\n", "broken 2 2\n"),
+    ("a marking too long", CASE_J, "broken 2 2 1\n", "broken 2 2 1 0\n"),
+    ("no marking", CASE_J, "broken 2 2 1\n", "broken 2\n"),
+    ("a zero before a number", CASE_J, "broken 2 2 1\n", "broken 2 02 1\n"),
+    ("a sign before a number", CASE_J, "broken 2 2 1\n", "broken 2 +2 1\n"),
+    ("two spaces", CASE_J, "broken 2 2 1\n", "broken 2 2  1\n"),
+    ("a space after a marking", CASE_J, "broken 2 2 1\n", "broken 2 2 1 \n"),
+    ("words for a marking", CASE_J, "broken 2 2 1\n", "broken 2 (a bad marking)\n"),
+    ("a twin before the marking", CASE_J, "broken 2 3 2 twin 1", "broken 2 twin 1 3 2"),
+    ("a missing twin after a marking", CASE_J, "broken 2 3 2 twin 1", "broken 2 3 2"),
+    ("a twin's number among the tokens", CASE_J, "broken 2 3 2 twin 1", "broken 2 3 2 1 twin 1"),
+    ("a missing listing", CASE_J, LISTING_OF_J, ""),
+    ("a listing too many", CASE_J, LISTING_OF_J, 2 * LISTING_OF_J),
+    ("a missing dot", CASE_J, LISTING_OF_J, LISTING_OF_J[:-2]),
+    ("a dot too many", CASE_J, LISTING_OF_J, LISTING_OF_J + ".\n"),
+    ("a dot without a newline", CASE_J, LISTING_OF_J, LISTING_OF_J[:-1]),
+    ("an end by a signal", CASE_J, LISTING_OF_J, LISTING_OF_J + "(ended with status -11)"),
+]
+
+# 01's walk, the full place and the sheet without a claim.
+WALKED = [(walk, lines) for walk, lines in WALKS if walk.kind in ["01's", "a full place", "sheet without a claim"]]
+ANSWERS = ["".join(line + "\n" for line in [*lines, "."]) for _, lines in WALKED]
+RIGHT_WALKS = "".join(ANSWERS)
+
+NONE, LAST = 14 * " 0", ANSWERS[-1]
+
+WRONG_WALKS = [
+    ("another start", FIRST, f"start 2 0{NONE}", f"start 0 1{NONE}"),
+    ("a start with tokens beyond n", FIRST, "start 2 0 0", "start 2 0 1"),
+    ("a walk that doesn't move", FIRST, f"moved 1 1{NONE}", f"moved 2 0{NONE}"),
+    ("a walk that moves once", FIRST, f"moved 0 2{NONE}", f"moved 1 1{NONE}"),
+    ("a step that isn't refused", FIRST, f"refused 15 at 1 0 2{NONE}", f"moved 0 2{NONE}"),
+    ("15 with another place", FIRST, "refused 15 at 1", "refused 15 at 2"),
+    ("15 with a place from 0 on", FIRST, "refused 15 at 1", "refused 15 at 0"),
+    ("a refused step that moves", FIRST, f"refused 15 at 1 0 2{NONE}", f"refused 15 at 1 0 3{NONE}"),
+    ("a missing step", FIRST, f"moved 0 2{NONE}\n", ""),
+    ("a step too many", FIRST, f"moved 0 2{NONE}\n", 2 * f"moved 0 2{NONE}\n"),
+    ("a marking too short", FIRST, f"moved 0 2{NONE}\n", f"moved 0 2{NONE[2:]}\n"),
+    ("overflow before the tokens taken have left", FULL, f"moved 65535 0{NONE}", f"refused 16 at 1 65535 0{NONE}"),
+    ("no overflow", FULL, "refused 16 at 1 65535", "moved 0"),
+    ("15 for 16", FULL, "refused 16 at 1", "refused 15 at 1"),
+    ("12 before the sheet's refusal", HEAD, f"refused 9 at 23 2 0{NONE}", f"refused 12 at 2 2 0{NONE}"),
+    ("no marking after a refused sheet", HEAD, f"refused 9 at 23 2 0{NONE}", "refused 9 at 23"),
+    ("a start from a refused sheet", HEAD, "refused 9 at 23\n", f"start 2 0{NONE}\n"),
+    ("a missing walk", HEAD, LAST, ""),
+    ("a walk too many", HEAD, LAST, 2 * LAST),
+    ("a missing dot after a walk", HEAD, LAST, LAST[:-2]),
+    ("an end by a signal after a walk", HEAD, LAST, LAST + "(ended with status -11)"),
+]
