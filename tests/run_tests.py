@@ -2,8 +2,8 @@
 
     python3 tests/run_tests.py
 
-The programs `judge`, `answers` and `questions` must be built. Most sheets go to `answers`, which takes many in one
-run: where an emulator runs the programs, a start takes far longer than a sheet. The pairs go to `questions`.
+The programs `judge`, `answers`, `questions` and `walks` must be built. Most sheets go to `answers`, which takes many in
+one run: where an emulator runs the programs, a start takes far longer than a sheet. The pairs go to `questions`.
 """
 
 import sys
@@ -23,6 +23,7 @@ from second_by_hand import check_second_program
 from self_check import check_tests_can_fail
 from streams import check_streams
 from verdicts_by_hand import check_verdicts_by_hand
+from walk_comparison import compare_walks
 from walks_by_hand import check_walks_by_hand
 
 BATCHES = 40
@@ -104,6 +105,7 @@ def main() -> int:
         check_streams,
         compare_sheets,
         compare_pairs,
+        compare_walks,
     )
 
 
