@@ -2,7 +2,7 @@
 
     python3 tests/run_tests.py
 
-The programs `judge`, `answers`, `questions` and `walks` must be built. Most sheets go to `answers`, which takes many in
+The programs `judge`, `answers`, `questions` and `walks` and the library must be built. Most sheets go to `answers`, which takes many in
 one run: where an emulator runs the programs, a start takes far longer than a sheet. The pairs go to `questions`.
 """
 
@@ -17,6 +17,7 @@ from concurrent.futures import ProcessPoolExecutor
 from cases import answer_name, for_answers, for_judge, make_cases
 from checks import Checks, Failure, run_checks
 from comparison import Case, differences
+from library_checks import check_library
 from pair_tests import compare_pairs
 from programs import BATCH_TIME_LIMIT, WORKERS, batches, framed, run
 from second_by_hand import check_second_program
@@ -103,6 +104,7 @@ def main() -> int:
         check_verdicts_by_hand,
         check_walks_by_hand,
         check_streams,
+        check_library,
         compare_sheets,
         compare_pairs,
         compare_walks,

@@ -120,13 +120,15 @@ pub extern "C" fn krunvedo_claim_record(sheet: &[u8], i: usize) -> Record
     }
 }
 
+// The transition stands last: with it before the areas, one register would be left for the pointer and the length of `marks`. C then
+// puts both on the stack, and the kit's compiler splits them.
 #[no_mangle]
 pub extern "C" fn krunvedo_pair(
     sheet: &[u8],
     i: usize,
-    t: usize,
     marks: &mut [u8],
     queue: &mut [u16],
+    t: usize,
 ) -> Paired
     ensures { λ r. ⌜ IsPaired (reading (now (sheet .entry))) (record { 0 = i }) (record { 0 = t }) (length (now (marks .entry))) (length (now (queue .entry))) r ⌝ }
     ensures { λ _. ⌜ now (marks .exit) ≡ areaAfter (pairCheck (reading (now (sheet .entry))) (record { 0 = i }) (record { 0 = t }) (length (now (marks .entry))) (length (now (queue .entry)))) (now (marks .entry)) ⌝ }
