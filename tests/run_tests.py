@@ -2,8 +2,9 @@
 
     python3 tests/run_tests.py
 
-The programs `judge`, `answers`, `questions` and `walks` and the library must be built. Most sheets go to `answers`, which takes many in
-one run: where an emulator runs the programs, a start takes far longer than a sheet. The pairs go to `questions`.
+The programs `judge`, `answers`, `questions` and `walks` and the library must be built. Most sheets go to `answers`,
+which takes many in one run: where an emulator runs the programs, a start takes far longer than a sheet. The pairs go to
+`questions`, the walks to `walks`.
 """
 
 import sys
