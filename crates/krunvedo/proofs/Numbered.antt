@@ -1,24 +1,30 @@
 -- No refusal has the number 0, so the number 0 says that nothing is refused: each test of the reading gives its refusal a number, and so do the calls.
-use mathlib.Core.Path.{_≡_, refl, sym, ap, _∙_, subst}
+use mathlib.Core.Path.{_≡_, refl, sym, subst}
 use mathlib.Core.Bool.{Bool, true, false}
-use mathlib.Core.List.{List, _∷_}
+use mathlib.Core.List.{List, [], _∷_}
 use Prim.Native.Nat.{ℕ, zero, suc, _+_, _*_, _≤_}
 use native.Mathlib.Omega.{arith}
 use lib.Dec.{leb, ltb, eqb}
-use lib.ListN.{length}
+use lib.ListN.{length, take}
 use Rattle.signed.specs.Twos.{twos8}
-use Rattle.terms.specs.Limits.{among, placesFit, transitionsFit, weightFits, coefficientFits, constantFits, kindFits, mostClaims}
-use Rattle.terms.specs.Refusals.{noClaim, notAClaim}
-use Rattle.terms.specs.declared.Claim as terms
+use Rattle.terms.specs.Limits.{among, areasFit, placesFit, transitionsFit, weightFits, coefficientFits, constantFits, kindFits, mostClaims}
+use Rattle.terms.specs.Refusals.{noClaim, notAClaim, notATransition, smallArea, notEnabled, tooMany}
+use Rattle.terms.specs.declared.Claim.{Claim}
+use Rattle.terms.specs.declared.Place.{Place}
 use Rattle.terms.specs.declared.Refusal.{Refusal}
-use Rattle.nets.specs.Nets.{Marking, Transition}
-use Rattle.nets.specs.Verdicts.{Setting, Target}
+use Rattle.terms.specs.declared.Transition.{Transition}
+use Rattle.nets.specs.Nets as nets
 use Rattle.format.specs.Read.{Read, sound, refused, _>>=_, _>>_, need, choose}
-use Rattle.format.specs.Contents.{Claim, Contents}
-use Rattle.format.specs.Reading.{byte, signedWord, words, markedAt, wholeAt, openedAt, eachFits, headSize, transitionSize, startSize, targetSize, claimSize, Size, sizeOf, headOf, transitionIn, transitionAt, transitionsAt, startAt, targetIn, targetAt, claimIn, claimAt, claimDue, claimsAt, transitionsFrom, startFrom, targetFrom, claimsFrom, settingOf, claimsOf, reading}
+use Rattle.format.specs.Contents.{Contents}
+use Rattle.format.specs.Reading.{byte, signedWord, markedAt, wholeAt, openedAt, eachFits, headSize, transitionSize, startSize, targetSize, claimSize, Size, headOf, transitionAt, transitionsAt, startAt, targetAt, claimAt, claimDue, claimsAt, transitionsFrom, startFrom, targetFrom, claimsFrom, settingOf, claimsOf, reading}
+use Rattle.reader.specs.Answers.{checked}
 use Rattle.reader.specs.declared.Check.{Check}
 use Rattle.reader.specs.declared.Check.the-variants.{Fine, Refused}
-use Rattle.sheet.specs.Held.{claimCheck}
+use Rattle.sheet.specs.Held.{claimCheck, transitionCheck}
+use Rattle.pairs.specs.Pairs.{pairCheck}
+use Rattle.verdicts.specs.Judged.{verdictCheck}
+use Rattle.walk.specs.Walk.{first, lowest, noSuchTransition, isShort, lowestShort, isOver, lowestOver, stepOf}
+use Rattle.walk.specs.declared.Marking.{Marking}
 use Rattle.krunvedo.specs.Numbers.{checkIs}
 
 data Numbered {A : Type 0} : Read A → Type 0 where
@@ -105,9 +111,81 @@ module _ (s : List ℕ) where
   unfolding reading
   sheet-numbered = bound _ _ head (λ z. bound _ _ (setting z) (λ q. bound _ _ (some-claims z) (λ is. (fine _))))
 
--- a sheet's refusal has a number
-pub refusal-numbered : (s : List ℕ) (r : Refusal) → reading s ≡ refused r → 1 ≤ r .number
-refusal-numbered s r e = number-of r (subst Numbered e (sheet-numbered s))
+sheet-number : (y : Read Contents) → Numbered y → (r : Refusal) → y ≡ refused r → 1 ≤ r .number
+sheet-number y h r e = number-of r (subst Numbered e h)
   where
     number-of : (q : Refusal) → Numbered {A = Contents} (refused q) → 1 ≤ q .number
     number-of q (with-number _ h) = h
+
+abbrev HasNumber : Check → Type 0
+HasNumber Fine = Unit {0}
+HasNumber (Refused r) = 1 ≤ r .number
+
+either : (t : Bool) (a b : Check) → HasNumber a → HasNumber b → HasNumber (choose t a b)
+either true a b h k = h
+either false a b h k = k
+
+passed-on : (y : Read Contents) → Numbered y → (next : Contents → Check) → ((x : Contents) → HasNumber (next x)) → (call : Read Contents → Check) → ((x : Contents) → call (sound x) ≡ next x) → ((r : Refusal) → call (refused r) ≡ Refused r) → HasNumber (call y)
+passed-on (sound x) h next k call e f = subst HasNumber (sym (e x)) (k x)
+passed-on (refused r) h next k call e f = subst HasNumber (sym (f r)) (sheet-number (refused r) h r refl)
+
+-- the lowest place that is refused, and the first refusal of a list
+lowest-number : (test : ℕ → Bool) (refusal : Place → Refusal) → ((p : Place) → 1 ≤ refusal p .number) → (p k : ℕ) → HasNumber (lowest test refusal p k)
+unfolding lowest
+lowest-number test refusal h p zero = tt
+lowest-number test refusal h p (suc k) =
+    either (test p) (Refused (refusal (record { 0 = p + 1 }))) (lowest test refusal (p + 1) k) (h (record { 0 = p + 1 })) (lowest-number test refusal h (p + 1) k)
+
+first-number : (c : Check) (cs : List Check) → HasNumber c → HasNumber (first cs) → HasNumber (first (c ∷ cs))
+first-number Fine cs h k = k
+first-number (Refused r) cs h k = h
+
+zero-fine : (c : Check) → HasNumber c → checkIs c .number ≡ 0 → c ≡ Fine
+zero-fine Fine h e = refl
+zero-fine (Refused r) h e = absurd (omega (arith, h, e))
+
+-- The number 0 says that nothing is refused, of each check that the exports pass on.
+module _ (s : List ℕ) where
+  pub read-zero : checkIs (checked (reading s)) .number ≡ 0 → checked (reading s) ≡ Fine
+  read-zero = zero-fine (checked (reading s)) (passed-on (reading s) (sheet-numbered s) (λ x. Fine) (λ x. tt) checked (λ x. refl) (λ r. refl))
+
+  pub claim-zero : (i : Claim) → checkIs (claimCheck (reading s) i) .number ≡ 0 → claimCheck (reading s) i ≡ Fine
+  claim-zero i =
+      let next : Contents → Check = λ x. claimCheck (sound x) i in
+      zero-fine (claimCheck (reading s) i) (passed-on (reading s) (sheet-numbered s) next (λ x. either (among (i .0) (length (x .claims))) Fine (Refused (notAClaim i)) tt (omega arith)) (λ y. claimCheck y i) (λ x. refl) (λ r. refl))
+
+  pub transition-zero : (t : Transition) → checkIs (transitionCheck (reading s) t) .number ≡ 0 → transitionCheck (reading s) t ≡ Fine
+  transition-zero t =
+      let next : Contents → Check = λ x. transitionCheck (sound x) t in
+      zero-fine (transitionCheck (reading s) t) (passed-on (reading s) (sheet-numbered s) next (λ x. either (among (t .0) (length (x .setting .net .transitions))) Fine (Refused (notATransition t)) tt (omega arith)) (λ y. transitionCheck y t) (λ x. refl) (λ r. refl))
+
+  pub pair-zero : (i : Claim) (t : Transition) (m q : ℕ) → checkIs (pairCheck (reading s) i t m q) .number ≡ 0 → pairCheck (reading s) i t m q ≡ Fine
+  pair-zero i t m q =
+      let next : Contents → Check = λ x. pairCheck (sound x) i t m q in
+      let areas : HasNumber (choose (areasFit m q) Fine (Refused smallArea)) = either (areasFit m q) Fine (Refused smallArea) tt (omega arith) in
+      let inner : (x : Contents) → HasNumber (choose (among (t .0) (length (x .setting .net .transitions))) (choose (areasFit m q) Fine (Refused smallArea)) (Refused (notATransition t))) =
+      λ x. either (among (t .0) (length (x .setting .net .transitions))) (choose (areasFit m q) Fine (Refused smallArea)) (Refused (notATransition t)) areas (omega arith) in
+      let all : (x : Contents) → HasNumber (next x) = λ x. either (among (i .0) (length (x .claims))) (choose (among (t .0) (length (x .setting .net .transitions))) (choose (areasFit m q) Fine (Refused smallArea)) (Refused (notATransition t))) (Refused (notAClaim i)) (inner x) (omega arith) in
+      zero-fine (pairCheck (reading s) i t m q) (passed-on (reading s) (sheet-numbered s) next all (λ y. pairCheck y i t m q) (λ x. refl) (λ r. refl))
+
+  pub verdict-zero : (i : Claim) (m q : ℕ) → checkIs (verdictCheck (reading s) i m q) .number ≡ 0 → verdictCheck (reading s) i m q ≡ Fine
+  verdict-zero i m q =
+      let next : Contents → Check = λ x. verdictCheck (sound x) i m q in
+      let areas : HasNumber (choose (areasFit m q) Fine (Refused smallArea)) = either (areasFit m q) Fine (Refused smallArea) tt (omega arith) in
+      let all : (x : Contents) → HasNumber (next x) = λ x. either (among (i .0) (length (x .claims))) (choose (areasFit m q) Fine (Refused smallArea)) (Refused (notAClaim i)) areas (omega arith) in
+      zero-fine (verdictCheck (reading s) i m q) (passed-on (reading s) (sheet-numbered s) next all (λ y. verdictCheck y i m q) (λ x. refl) (λ r. refl))
+
+  pub step-zero : (t : Transition) (m : Marking) → checkIs (stepOf (reading s) t m .answer) .number ≡ 0 → stepOf (reading s) t m .answer ≡ Fine
+  step-zero t m =
+      let next : Contents → Check = λ x. stepOf (sound x) t m .answer in
+      let all : (x : Contents) → HasNumber (next x) = λ x.
+      let net = x .setting .net in
+      let tokens = take (net .places) (m .tokens) in
+      let fired = nets.transition net (t .0) in
+      let short = lowestShort (net .places) (fired .taken) tokens in
+      let over = lowestOver (net .places) (nets.fire fired tokens) in
+      first-number (noSuchTransition net t) (short ∷ over ∷ [])
+      (either (among (t .0) (length (net .transitions))) Fine (Refused (notATransition t)) tt (omega arith))
+      (first-number short (over ∷ []) (lowest-number (isShort (fired .taken) tokens) notEnabled (λ p. omega arith) 0 (net .places))
+      (first-number over [] (lowest-number (isOver (nets.fire fired tokens)) tooMany (λ p. omega arith) 0 (net .places)) tt)) in
+      zero-fine (stepOf (reading s) t m .answer) (passed-on (reading s) (sheet-numbered s) next all (λ y. stepOf y t m .answer) (λ x. refl) (λ r. refl))
