@@ -2,8 +2,9 @@
 
     python3 tests/run_tests.py
 
-The programs must be built. Most sheets go to `answers` and `listings`, which take many in one run: where an emulator
-runs the programs, a start takes far longer than a sheet. The pairs go to `questions`.
+The programs and the library must be built. Most sheets go to `answers` and `listings`, which take many in one run:
+where an emulator runs the programs, a start takes far longer than a sheet. The pairs go to `questions`, the walks to
+`walks`.
 """
 
 import sys
@@ -19,6 +20,7 @@ from checks import Checks, Failure, run_checks
 from comparison import Case, differences
 from example_checks import check_examples
 from listing_comparison import compare_listings
+from library_checks import check_library
 from pair_tests import compare_pairs
 from programs import BATCH_TIME_LIMIT, WORKERS, batches, framed, run
 from second.listing import check_listing
@@ -26,6 +28,7 @@ from second_by_hand import check_second_program
 from self_check import check_tests_can_fail
 from streams import check_streams
 from verdicts_by_hand import check_verdicts_by_hand
+from walk_comparison import compare_walks
 from walks_by_hand import check_walks_by_hand
 
 BATCHES = 40
@@ -108,9 +111,11 @@ def main() -> int:
         check_walks_by_hand,
         check_examples,
         check_streams,
+        check_library,
         compare_sheets,
         compare_pairs,
         compare_listings,
+        compare_walks,
     )
 
 

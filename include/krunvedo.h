@@ -1,0 +1,157 @@
+/* krunvedo.h: the Krunvedo library for C and for languages that call C. Link libkrunvedo.a (`rt staticlib krunvedo` writes it to
+ * target/staticlib/). It is for x86-64 Linux and needs of the C library only memcpy and memset.
+ *
+ * What each call answers is set out in document 01, and proved for every input: any bytes may stand in a sheet, and any number may
+ * be asked for. All that a caller owes is valid memory, the same that a reference of Rust's is:
+ *
+ *  - A slice's pointer is not null, even where its length is 0, is aligned for its entries, and has that many of them behind it.
+ *  - What is lent to be written (`marks`, `queue`, `tokens`) overlaps nothing else that the same call is given, and nobody else
+ *    touches it during the call.
+ *
+ * No call keeps a pointer, allocates memory or holds state: calls may run at the same time on memory of their own.
+ *
+ * Places, transitions and claims are numbered from 1. Rows have 16 numbers; those beyond the sheet's places are 0.
+ */
+#ifndef KRUNVEDO_H
+#define KRUNVEDO_H
+
+#include <stddef.h>
+#include <stdint.h>
+
+#ifdef __cplusplus
+extern "C" {
+#endif
+
+#define KRUNVEDO_PLACES 16 /* numbers in a row */
+#define KRUNVEDO_AREA 20000 /* entries that each work area must have */
+
+/* Bytes that are only read. */
+typedef struct {
+  const uint8_t *data;
+  size_t length;
+} krunvedo_bytes;
+
+/* The work areas that judging borrows. After an answer that is not a refusal their first 20,000 entries are zero and the rest are
+ * untouched; a refusal changes nothing. */
+typedef struct {
+  uint8_t *data;
+  size_t length;
+} krunvedo_marks;
+
+typedef struct {
+  uint16_t *data;
+  size_t length;
+} krunvedo_queue;
+
+/* Document 01, "Numbers that say no". Where nothing is refused both are 0. Where something is, all else in the answer is 0. */
+typedef struct {
+  uint8_t number;
+  size_t detail;
+} krunvedo_refused;
+
+/* The counts of a sheet. */
+typedef struct {
+  krunvedo_refused refusal;
+  size_t places;
+  size_t transitions;
+  size_t claims;
+} krunvedo_counted;
+
+krunvedo_counted krunvedo_read(krunvedo_bytes sheet);
+
+/* The weights that transition t takes and puts. */
+typedef struct {
+  krunvedo_refused refusal;
+  uint8_t taken[KRUNVEDO_PLACES];
+  uint8_t put[KRUNVEDO_PLACES];
+} krunvedo_weighted;
+
+krunvedo_weighted krunvedo_weights(krunvedo_bytes sheet, size_t t);
+
+/* The sheet's start. */
+typedef struct {
+  krunvedo_refused refusal;
+  uint16_t tokens[KRUNVEDO_PLACES];
+} krunvedo_tokens;
+
+krunvedo_tokens krunvedo_start(krunvedo_bytes sheet);
+
+/* The sheet's target. */
+#define KRUNVEDO_EXACT 0       /* this marking */
+#define KRUNVEDO_AT_OR_ABOVE 1 /* every marking at or above it in each place */
+
+typedef struct {
+  krunvedo_refused refusal;
+  uint8_t kind;
+  uint16_t tokens[KRUNVEDO_PLACES];
+} krunvedo_aim;
+
+krunvedo_aim krunvedo_target(krunvedo_bytes sheet);
+
+/* The half space of claim i, and its reduced form. */
+typedef struct {
+  krunvedo_refused refusal;
+  int8_t coefficients[KRUNVEDO_PLACES];
+  int16_t constant;
+} krunvedo_space;
+
+krunvedo_space krunvedo_half_space(krunvedo_bytes sheet, size_t i);
+krunvedo_space krunvedo_reduced(krunvedo_bytes sheet, size_t i);
+
+/* Whether claim i's record can be had; and where it stands in the sheet, its mark included. */
+typedef struct {
+  krunvedo_refused refusal;
+  size_t offset;
+  size_t length;
+} krunvedo_record;
+
+krunvedo_refused krunvedo_claim_check(krunvedo_bytes sheet, size_t i);
+krunvedo_record krunvedo_claim_record(krunvedo_bytes sheet, size_t i);
+
+/* Does transition t keep claim i? Start and target play no part. The marking is a bad one where t breaks it. */
+#define KRUNVEDO_REFUSED 0
+#define KRUNVEDO_KEPT 1
+#define KRUNVEDO_BROKEN 2
+
+typedef struct {
+  krunvedo_refused refusal;
+  uint8_t answer;
+  uint16_t marking[KRUNVEDO_PLACES];
+} krunvedo_paired;
+
+krunvedo_paired krunvedo_pair(krunvedo_bytes sheet, size_t i, krunvedo_marks marks, krunvedo_queue queue, size_t t);
+
+/* The verdict on claim i: KRUNVEDO_REFUSED, or the first of these that holds. A broken claim has the lowest transition that breaks
+ * it, and a bad marking. */
+#define KRUNVEDO_START_OUTSIDE 1
+#define KRUNVEDO_TARGET_INSIDE 2
+#define KRUNVEDO_CLAIM_BROKEN 3
+#define KRUNVEDO_PROOF 4
+
+typedef struct {
+  krunvedo_refused refusal;
+  uint8_t answer;
+  size_t transition;
+  uint16_t marking[KRUNVEDO_PLACES];
+} krunvedo_judged;
+
+krunvedo_judged krunvedo_verdict(krunvedo_bytes sheet, size_t i, krunvedo_marks marks, krunvedo_queue queue);
+
+/* The lowest claim before claim i that is its twin; 0 where there is none. */
+typedef struct {
+  krunvedo_refused refusal;
+  size_t claim;
+} krunvedo_twinned;
+
+krunvedo_twinned krunvedo_twin(krunvedo_bytes sheet, size_t i);
+
+/* The marking that a walk begins at, and a step of a walk by transition t. A step moves the sixteen tokens on; it neither reads nor
+ * alters those beyond the sheet's places, and a refused one changes none. */
+krunvedo_tokens krunvedo_begin(krunvedo_bytes sheet);
+krunvedo_refused krunvedo_step(uint16_t *tokens, krunvedo_bytes sheet, size_t t);
+
+#ifdef __cplusplus
+}
+#endif
+
+#endif

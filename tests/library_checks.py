@@ -1,0 +1,116 @@
+"""Links the library into a C program and a Rust program, and holds both to document 01.
+
+    python3 tests/library_checks.py
+
+The archive must be built (`scripts/library`). It is for x86-64 only, so on another machine nothing is linked.
+"""
+
+import sys
+
+sys.dont_write_bytecode = True  # before the imports of our own modules, which would leave __pycache__ behind
+
+import platform
+import shutil
+import subprocess
+from collections.abc import Iterator
+from pathlib import Path
+from tempfile import TemporaryDirectory
+
+from checks import Checks, run_checks
+from named_cases import FIRST
+from programs import ROOT, TIME_LIMIT, output_of
+
+MACHINE = "x86_64"
+ARCHIVES = ROOT / "target" / "staticlib"
+STRICT_C = ["-std=c11", "-pedantic", "-Wall", "-Wextra", "-Werror", "-O2"]
+STRICT_RUST = ["--edition", "2021", "--test", "-D", "warnings"]
+
+
+def check_library(checks: Checks) -> None:
+    if platform.machine() != MACHINE:
+        print(f"library: not linked, since this machine is {platform.machine()} and the archive is for {MACHINE}")
+        return
+    with TemporaryDirectory() as folder:
+        check_c(checks, Path(folder) / "example")
+        check_rust(checks, Path(folder) / "library")
+
+
+def check_c(checks: Checks, program: Path) -> None:
+    source, archive = ROOT / "tests" / "c" / "example.c", ARCHIVES / "libkrunvedo.a"
+    if built(checks, ["gcc", *STRICT_C, f"-I{ROOT / 'include'}", source, archive, "-o", program]):
+        expected = "".join(line + "\n" for line in expected_lines())
+        checks.equal("the library from C", FIRST, expected, output_of([str(program)], TIME_LIMIT, input=FIRST))
+
+
+def check_rust(checks: Checks, program: Path) -> None:
+    source = ROOT / "tests" / "rust" / "library.rs"
+    if built(checks, ["rustc", *STRICT_RUST, "-L", ARCHIVES, source, "-o", program]):
+        checks.equal("the library from Rust", b"", "", failed_tests(output_of([str(program)], TIME_LIMIT)))
+
+
+def built(checks: Checks, line: list) -> bool:
+    """Whether the compiler is here and made the program."""
+    if not shutil.which(line[0]):
+        print(f"library: not linked by {line[0]}, which isn't on this machine")
+        return False
+    made = subprocess.run([str(word) for word in line], capture_output=True, text=True)
+    checks.equal(f"build with {line[0]}", b"", (0, ""), (made.returncode, made.stderr))
+    return made.returncode == 0
+
+
+def failed_tests(output: str) -> str:
+    """Nothing where Rust's own harness says that all tests passed, else all that it printed."""
+    return "" if "test result: ok. 5 passed; 0 failed" in output else output
+
+
+def expected_lines() -> Iterator[str]:
+    """What 01 says of its own sheet, written by hand."""
+    yield "read 0: refusal 0 at 0, counts 2 1 5"
+    yield f"start 0: refusal 0 at 0, tokens {row(2)}"
+    yield f"target 0: refusal 0 at 0, kind 0, tokens {row(0, 1)}"
+    yield f"weights 0: refusal 12 at 0, taken {row()}, put {row()}"
+    yield f"weights 1: refusal 0 at 0, taken {row(1)}, put {row(0, 1)}"
+    yield f"weights 2: refusal 12 at 2, taken {row()}, put {row()}"
+    yield from claim_lines()
+    yield from judged_lines()
+    yield f"begin 0: refusal 0 at 0, tokens {row(2)}"
+    yield f"step 1: refusal 0 at 0, tokens {row(1, 1, last=7)}"
+    yield f"step 1: refusal 0 at 0, tokens {row(0, 2, last=7)}"
+    yield f"step 1: refusal 15 at 1, tokens {row(0, 2, last=7)}"
+    yield f"step 2: refusal 12 at 2, tokens {row(0, 2, last=7)}"
+
+
+def claim_lines() -> Iterator[str]:
+    none = ([], 0)
+    spaces = [none, ([1, 1], 2), ([-1], 0), ([0, 1], 0), ([2, 1], 2), ([2, 2], 4), none]
+    reduced = [*spaces[:5], ([1, 1], 2), none]
+    starts, twins = [0, 23, 29, 35, 41, 47, 0], [0, 0, 0, 0, 0, 1, 0]
+    for i in range(7):
+        refusal = refused_claim(i)
+        for call, (coefficients, constant) in [("half_space", spaces[i]), ("reduced", reduced[i])]:
+            yield f"{call} {i}: {refusal}, coefficients {row(*coefficients)}, constant {constant}"
+        yield f"claim_check {i}: {refusal}"
+        yield f"claim_record {i}: {refusal}, from {starts[i]}, length {6 if 1 <= i <= 5 else 0}"
+        yield f"twin {i}: {refusal}, claim {twins[i]}"
+
+
+def judged_lines() -> Iterator[str]:
+    pairs, verdicts = [0, 1, 1, 1, 2, 1, 0], [0, 4, 1, 2, 3, 4, 0]
+    for i in range(7):
+        bad = row(1) if i == 4 else row()
+        yield f"pair {i}: {refused_claim(i)}, answer {pairs[i]}, tokens {bad}"
+        yield f"verdict {i}: {refused_claim(i)}, answer {verdicts[i]}, transition {int(i == 4)}, tokens {bad}"
+    yield f"pair 4: refusal 13 at 0, answer 0, tokens {row()}"
+    yield f"verdict 4: refusal 13 at 0, answer 0, transition 0, tokens {row()}"
+
+
+def refused_claim(i: int) -> str:
+    return "refusal 0 at 0" if 1 <= i <= 5 else f"refusal 11 at {i}"
+
+
+def row(*first: int, last: int = 0) -> str:
+    return " ".join(map(str, [*first, *(15 - len(first)) * [0], last]))
+
+
+if __name__ == "__main__":
+    sys.exit(run_checks(check_library))
