@@ -49,12 +49,14 @@ def check_rust(checks: Checks, program: Path) -> None:
 
 
 def built(checks: Checks, line: list) -> bool:
-    """Whether the compiler is here and made the program."""
+    """Whether the compiler is here and made the program; each says so on a line, lest a skipped one go unseen."""
     if not shutil.which(line[0]):
         print(f"library: not linked by {line[0]}, which isn't on this machine")
         return False
     made = subprocess.run([str(word) for word in line], capture_output=True, text=True)
     checks.equal(f"build with {line[0]}", b"", (0, ""), (made.returncode, made.stderr))
+    if made.returncode == 0:
+        print(f"library: linked by {line[0]}")
     return made.returncode == 0
 
 
