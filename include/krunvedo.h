@@ -146,7 +146,8 @@ typedef struct {
 krunvedo_twinned krunvedo_twin(krunvedo_bytes sheet, size_t i);
 
 /* The marking that a walk begins at, and a step of a walk by transition t. A step moves the sixteen tokens on; it neither reads nor
- * alters those beyond the sheet's places, and a refused one changes none. */
+ * alters those beyond the sheet's places, and a refused one changes none. tokens points to sixteen numbers, aligned as uint16_t, that
+ * nothing else touches during the call. */
 krunvedo_tokens krunvedo_begin(krunvedo_bytes sheet);
 krunvedo_refused krunvedo_step(uint16_t *tokens, krunvedo_bytes sheet, size_t t);
 

@@ -223,12 +223,12 @@ def all_at_ends(chance: Random) -> Pair:
 MAKERS: dict[str, tuple[Callable[[Random], Pair], int]] = {
     "all above zero": (all_above_zero, 2_000),
     "all below zero": (all_below_zero, 2_000),
-    "mixed signs": (mixed_signs, 2_000),
-    "with zeros": (with_zeros, 2_000),
-    "oriented": (oriented, 1_200),
-    "monotone": (monotone, 1_200),
-    "antitone": (antitone, 1_200),
+    "mixed signs": (mixed_signs, 4_000),
+    "with zeros": (with_zeros, 5_000),
+    "oriented": (oriented, 2_500),
+    "monotone": (monotone, 4_000),
+    "antitone": (antitone, 4_000),
     "between multiples": (between_multiples, 3_500),
-    "far window": (far_window, 1_000),
+    "far window": (far_window, 3_000),
     "all at ends": (all_at_ends, 1_000),
 }

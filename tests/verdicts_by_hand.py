@@ -1,9 +1,11 @@
-"""Holds the second program to document 01: verdicts, twins and whole listings, written by hand."""
+"""Holds the second program and ours to document 01: verdicts, twins and whole listings, written by hand."""
 
 from checks import Checks
+from dotted import dotted_answers
 from named_cases import FIRST, HEAD, LARGEST, MIDDLE, SMALLEST
 from pair_cases import CASES, T_OF_004
 from pair_cases import K as T_OF_CASE_K
+from programs import BATCH_TIME_LIMIT, command, framed, output_of, run
 from second.listing import check_listing, listing
 from second.pairs import may_be_shown, value
 from second.sheet import Claim, Sheet, Transition, write
@@ -16,18 +18,39 @@ WAYS = {"sums": BY_SUMS, "residues": BY_RESIDUES, "trying": BY_TRYING}
 
 def check_verdicts_by_hand(checks: Checks) -> None:
     check_pairs(checks)
-    for name, start, kind, target, claim, transition, word in VERDICTS:
-        sheet = Sheet(2, 1, (transition,), start, kind, target, (claim,))
+    for (name, *_, claim, _, word), sheet in zip(VERDICTS, sheets_of_verdicts()):
         expected = Verdict(word, 1 if word == "broken" else None)
         for way in WAYS:
             actual = verdict(sheet, claim, WAYS[way])
             checks.equal(f"verdict on case {name}, by {way}", write(sheet), expected, actual)
+    check_listed(checks)
     for claim, expected in REDUCED:
         checks.equal(f"reduced form of {claim}", b"", expected, reduced(claim))
     checks.equal("twins", b"", [twin for _, twin in TWINS], first_twins([claim for claim, _ in TWINS]))
     for data, expected in LISTINGS:
         checks.equal("listing, second program against 01", data, expected, listing(data))
         checks.equal("01's listing is accepted", data, None, check_listing(data, expected))
+
+
+def sheets_of_verdicts() -> list[Sheet]:
+    return [
+        Sheet(2, 1, (transition,), start, kind, target, (claim,))
+        for _, start, kind, target, claim, transition, _ in VERDICTS
+    ]
+
+
+def check_listed(checks: Checks) -> None:
+    """Our program lists the same sheets."""
+    twins = Sheet(2, 0, (), (0, 0), 0, (0, 0), tuple(claim for claim, _ in TWINS))
+    sheets = [write(sheet) for sheet in [*sheets_of_verdicts(), twins]]
+    output = output_of(command("listings"), BATCH_TIME_LIMIT, input=b"".join(map(framed, sheets)))
+    *answers, last = dotted_answers(output, len(sheets))
+    for (name, *_, word), data, answer in zip(VERDICTS, sheets, answers):
+        checks.equal(f"verdict on case {name}, listed", data, word, (answer.split() + 9 * [""])[8])
+    listed = [line.partition(" twin ")[2] for line in last.splitlines()[1:-1]]
+    checks.equal("twins, listed", sheets[-1], [str(twin or "") for _, twin in TWINS], listed)
+    for data, expected in LISTINGS:
+        checks.equal("listing, judge against 01", data, expected, run("judge", input=data))
 
 
 def check_pairs(checks: Checks) -> None:

@@ -1,10 +1,11 @@
-"""Holds the second program to document 01: walks, written by hand."""
+"""Holds the second program and ours to document 01: walks, written by hand."""
 
 from checks import Checks
 from make_walks import Walk
 from named_cases import FIRST, HEAD, MIDDLE, hexed
+from programs import BATCH_TIME_LIMIT, command, output_of
 from second.limits import MOST_TOKENS
-from walk_comparison import answer_lines
+from walk_comparison import answer_lines, differences, frame
 
 # One place, which is full. The first transition takes one and puts one, the second takes none and puts one.
 FULL = hexed("4E 50 01 02", "54 52 01 01", "54 52 00 01", "4D 4B FF FF", "54 47 00 00 00", "48 53 00 00 00")
@@ -13,6 +14,9 @@ FULL = hexed("4E 50 01 02", "54 52 01 01", "54 52 00 01", "4D 4B FF FF", "54 47 
 def check_walks_by_hand(checks: Checks) -> None:
     for walk, lines in WALKS:
         checks.equal(f"walk, {walk.kind}, second program against 01", walk.data, lines, answer_lines(walk))
+    walks = [walk for walk, _ in WALKS]
+    output = output_of(command("walks"), BATCH_TIME_LIMIT, input=b"".join(map(frame, walks)))
+    checks.report(differences(walks, output))
 
 
 def by_hand(kind: str, data: bytes, marking: str, steps: list[int], *lines: str) -> tuple[Walk, list[str]]:
