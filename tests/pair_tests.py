@@ -23,7 +23,7 @@ from second.sheet import Refusal
 
 BATCHES = 24
 
-LEAST_QUESTIONS = 20_000
+LEAST_QUESTIONS = 34_000
 LEAST_OF_EACH_REFUSAL = 40
 
 # Of each kind, how many pairs must be kept and how many broken. By the theorems of 004 oriented, monotone and
