@@ -2,8 +2,8 @@
 
     python3 tests/example_checks.py
 
-The program `judge` must be built. Each bad marking in the listings is the only one of the least total, which is what our
-library shows; so a listing is compared byte for byte.
+The program `judge` must be built. Which bad marking it shows is free, so what it prints is held to the second program, byte
+for byte but for that choice. The committed listings and the README show the markings of the least total.
 """
 
 import sys
@@ -48,7 +48,7 @@ def check_listed(checks: Checks, name: str) -> None:
     data = made_sheet(name)
     expected = (EXAMPLE / f"{name}.listing").read_text()
     checks.equal(f"example {name}, listing against second program", data, None, check_listing(data, expected))
-    checks.equal(f"example {name}", data, expected, run("judge", input=data))
+    checks.equal(f"example {name}", data, None, check_listing(data, run("judge", input=data)))
     shown = f"    $ ./judge target/examples/{name}.sheet\n" + indent(expected, "    ")
     checks.equal(f"example {name}, listing in the README", data, True, shown in (ROOT / "README.md").read_text())
     for line, text in zip(lines(read(data)), expected.splitlines()):
