@@ -1,5 +1,6 @@
 // plain_pair: answers the framed questions of the program `questions` by the same method as crates/pairs and crates/search:
-// a breadth-first search over values, in a table that just holds the window of Theorem 1 and one step on either side.
+// a breadth-first search over values, in a table that just holds the window of Theorem 1 and one step on either side, by
+// steps of each coefficient but 0 once.
 // As there, the areas are filled before each question and looked through afterwards.
 #include "plain_sheet.h"
 
@@ -37,11 +38,30 @@ static int larger(int a, int b)
     return a < b ? b : a;
 }
 
-static int longest(const int8_t k[], size_t n)
+// Each coefficient but 0 once, with a place where it stands.
+struct row {
+    size_t count;
+    int8_t k[MOST_PLACES];
+    uint8_t place[MOST_PLACES];
+};
+
+static struct row distinct(const int8_t k[], size_t n)
+{
+    struct row row;
+    row.count = 0;
+    for (size_t p = 0; p < n; p++)
+        if (k[p] != 0 && memchr(row.k, k[p], row.count) == NULL) {
+            row.k[row.count] = k[p];
+            row.place[row.count++] = (uint8_t)p;
+        }
+    return row;
+}
+
+static int longest(const struct row *row)
 {
     int most = 0;
-    for (size_t p = 0; p < n; p++)
-        most = larger(most, larger(k[p], -k[p]));
+    for (size_t i = 0; i < row->count; i++)
+        most = larger(most, larger(row->k[i], -row->k[i]));
     return most;
 }
 
@@ -53,7 +73,7 @@ static struct table placed(int lo, int hi, int m)
 }
 
 // The first position in the window, in breadth-first order, or -1.
-static int reach_window(const int8_t k[], size_t n, struct table table)
+static int reach_window(const struct row *row, struct table table)
 {
     marks[table.start] = UINT8_MAX;
     queue[0] = (uint16_t)table.start;
@@ -62,11 +82,11 @@ static int reach_window(const int8_t k[], size_t n, struct table table)
         int v = queue[head];
         if (table.lo <= v && v <= table.hi)
             return v;
-        for (size_t p = 0; p < n; p++) {
-            int w = v + k[p];
+        for (size_t i = 0; i < row->count; i++) {
+            int w = v + row->k[i];
             if (w < 0 || w >= table.size || marks[w] != 0)
                 continue;
-            marks[w] = (uint8_t)(p + 1);
+            marks[w] = (uint8_t)(i + 1);
             queue[tail++] = (uint16_t)w;
         }
     }
@@ -78,15 +98,16 @@ static bool find(const int8_t k[], size_t n, int lo, int hi, uint16_t marking[])
 {
     if (hi < lo)
         return false;
-    struct table table = placed(lo, hi, longest(k, n));
+    struct row row = distinct(k, n);
+    struct table table = placed(lo, hi, longest(&row));
     memset(marks, 0, (size_t)table.size);
-    int v = reach_window(k, n, table);
+    int v = reach_window(&row, table);
     if (v < 0)
         return false;
     while (v != table.start) {
-        int p = marks[v] - 1;
-        marking[p]++;
-        v -= k[p];
+        int i = marks[v] - 1;
+        marking[row.place[i]]++;
+        v -= row.k[i];
     }
     return true;
 }

@@ -1,8 +1,9 @@
 // What each call answers, in words.
 use reader::Check;
 use reader::Reading;
-use sheet::Kind;
 use terms::Claim;
+use terms::Kind;
+use terms::Place;
 use terms::Refusal;
 use terms::Transition;
 
@@ -67,21 +68,21 @@ pub fn show_answer(sheet: &[u8]) {
     say(b"\n");
 }
 
-fn bytes(words: &[u8], row: [u8; 16]) {
+fn bytes(words: &[u8], row: [u8; Place::MOST]) {
     say(words);
-    for p in 0..16 {
+    for p in 0..Place::MOST {
         number8(row[p]);
     }
 }
 
-fn tokens(row: [u16; 16]) {
-    for p in 0..16 {
+fn tokens(row: [u16; Place::MOST]) {
+    for p in 0..Place::MOST {
         number16(row[p]);
     }
 }
 
-fn coefficients(row: [i8; 16]) {
-    for p in 0..16 {
+fn coefficients(row: [i8; Place::MOST]) {
+    for p in 0..Place::MOST {
         signed8(row[p]);
     }
 }

@@ -11,6 +11,7 @@ use libc::STDIN_FILENO;
 use listing::Listed;
 use listing::listing_of;
 use printing::print;
+use terms::Area;
 
 // How much was taken in, at the start of the room that was lent.
 enum Input {
@@ -45,8 +46,8 @@ fn listing(kept: &[u8], marks: &mut [u8], queue: &mut [u16], text: &mut [u8]) ->
 }
 
 fn show(kept: &[u8]) {
-    let mut marks = [0u8; 20000];
-    let mut queue = [0u16; 20000];
+    let mut marks = [0u8; Area::SIZE];
+    let mut queue = [0u16; Area::SIZE];
     let mut text = io::buffer();
     let answer = listing(kept, &mut marks, &mut queue, &mut text);
     print(answer, &mut text);

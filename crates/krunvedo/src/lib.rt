@@ -32,6 +32,7 @@ use numbers::verdict_number;
 use numbers::verdict_transition;
 use records::record_from;
 use terms::Claim;
+use terms::Place;
 use terms::Transition;
 use walk::Marking;
 
@@ -204,7 +205,7 @@ pub extern "C" fn krunvedo_begin(sheet: &[u8]) -> Tokens
 
 // The tokens are lent, and moved on.
 #[no_mangle]
-pub extern "C" fn krunvedo_step(tokens: &mut [u16; 16], sheet: &[u8], t: usize) -> Refused
+pub extern "C" fn krunvedo_step(tokens: &mut [u16; Place::MOST], sheet: &[u8], t: usize) -> Refused
     ensures { λ r. ⌜ r ≡ checkIs (stepOf (reading (now (sheet .entry))) (record { 0 = t }) (record { tokens = now (tokens .entry) }) .answer) ⌝ }
     ensures { λ _. ⌜ now (tokens .exit) ≡ stepOf (reading (now (sheet .entry))) (record { 0 = t }) (record { tokens = now (tokens .entry) }) .marking .tokens ⌝ }
 {

@@ -3,7 +3,8 @@ ghost use mathlib.Core.Path.{_≡_};
 ghost use Rattle.krunvedo.specs.Numbers.{refusalIs, checkIs, readingIs, kindIs, twinIs, pairNumber, pairRefusal, verdictNumber, verdictRefusal, verdictTransition};
 use reader::Check;
 use reader::Reading;
-use sheet::Kind;
+use terms::Kind;
+use terms::Place;
 use terms::Refusal;
 use twins::Twin;
 
@@ -25,14 +26,14 @@ pub struct Counted {
 #[repr(C)]
 pub struct Weighted {
     pub refusal: Refused,
-    pub taken: [u8; 16],
-    pub put: [u8; 16],
+    pub taken: [u8; Place::MOST],
+    pub put: [u8; Place::MOST],
 }
 
 #[repr(C)]
 pub struct Tokens {
     pub refusal: Refused,
-    pub tokens: [u16; 16],
+    pub tokens: [u16; Place::MOST],
 }
 
 // Kind 0 is one exact marking, kind 1 every marking at or above it.
@@ -40,13 +41,13 @@ pub struct Tokens {
 pub struct Target {
     pub refusal: Refused,
     pub kind: u8,
-    pub tokens: [u16; 16],
+    pub tokens: [u16; Place::MOST],
 }
 
 #[repr(C)]
 pub struct Space {
     pub refusal: Refused,
-    pub coefficients: [i8; 16],
+    pub coefficients: [i8; Place::MOST],
     pub constant: i16,
 }
 
@@ -63,7 +64,7 @@ pub struct Record {
 pub struct Paired {
     pub refusal: Refused,
     pub answer: u8,
-    pub marking: [u16; 16],
+    pub marking: [u16; Place::MOST],
 }
 
 // 0 refused, then document 01's four verdicts in their order. The transition is 0 but where the claim is broken.
@@ -72,7 +73,7 @@ pub struct Verdict {
     pub refusal: Refused,
     pub answer: u8,
     pub transition: usize,
-    pub marking: [u16; 16],
+    pub marking: [u16; Place::MOST],
 }
 
 // The claim is 0 where no earlier one is a twin.

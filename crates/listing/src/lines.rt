@@ -5,6 +5,7 @@ ghost use lib.ListN.{length, take};
 ghost use Rattle.text.specs.Bytes.{Wrote, chars, decimal};
 ghost use Rattle.listing.specs.Lines.{countsLine, refusedLine, tokensText, twinText, answerText, answerLine, Brief};
 use reader::Counts;
+use terms::Place;
 use text::labelled;
 use text::put;
 use verdicts::Answer;
@@ -38,7 +39,7 @@ fn tokens_of_one(text: &mut [u8], at: usize, m: u16) -> usize
 }
 
 // The tokens of the first n places.
-fn tokens(text: &mut [u8], at: usize, marking: [u16; 16], n: usize) -> usize
+fn tokens(text: &mut [u8], at: usize, marking: [u16; Place::MOST], n: usize) -> usize
     requires { ⌜ (n ≤ 16) × (at + 96 ≤ length (now text)) ⌝ }
     ensures { λ r. ⌜ Wrote (tokensText (take n marking)) (now (text .entry)) at (now (text .exit)) r × (r ≤ at + 96) ⌝ }
 {

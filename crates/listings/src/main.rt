@@ -2,6 +2,7 @@
 // judge lists it, with a line of a dot behind it.
 use listing::listing_of;
 use printing::print;
+use terms::Area;
 
 const STDIN: i32 = 0;
 
@@ -43,8 +44,8 @@ fn next_sheet(room: &mut [u8], marks: &mut [u8], queue: &mut [u16], text: &mut [
 fn main() {
     let mut room = io::large_buffer();
     let mut text = io::buffer();
-    let mut marks = [0u8; 20000];
-    let mut queue = [0u16; 20000];
+    let mut marks = [0u8; Area::SIZE];
+    let mut queue = [0u16; Area::SIZE];
     let mut turns = u64::MAX;
     while turns > 0 && next_sheet(&mut room, &mut marks, &mut queue, &mut text) {
         turns -= 1;

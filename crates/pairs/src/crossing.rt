@@ -8,15 +8,16 @@ use super::window::Window;
 use super::window::beside;
 use search::find;
 use sheet::rows::weights_from;
+use terms::Place;
 use values::value_at;
 
 pub struct Crossing {
     pub hit: bool,
-    pub marking: [u16; 16],
+    pub marking: [u16; Place::MOST],
 }
 
 // The window of Theorem 1.
-fn window_at(k: [i8; 16], c: i16, sheet: &[u8], n: usize, at: usize) -> Window
+fn window_at(k: [i8; Place::MOST], c: i16, sheet: &[u8], n: usize, at: usize) -> Window
     requires { ⌜ Ready (take n k) c (now sheet) n at ⌝ }
     ensures { λ r. ⌜ (r .lo ≡ low-end (space (take n k) c) (transitionIn (now (sheet .entry)) n at)) × (r .hi ≡ high-end (space (take n k) c) (transitionIn (now (sheet .entry)) n at)) ⌝ }
 {
@@ -27,7 +28,7 @@ fn window_at(k: [i8; 16], c: i16, sheet: &[u8], n: usize, at: usize) -> Window
 
 // The coefficients k and the constant c, and the transition whose record starts at a byte of the sheet.
 pub fn crossing_of(
-    k: [i8; 16],
+    k: [i8; Place::MOST],
     c: i16,
     sheet: &[u8],
     n: usize,

@@ -39,7 +39,7 @@ pub enum Answer {
 // The marking is bad where the answer is Broken, and zeros elsewhere.
 pub struct Pair {
     pub answer: Answer,
-    pub marking: [u16; 16],
+    pub marking: [u16; Place::MOST],
 }
 
 impl Pair {

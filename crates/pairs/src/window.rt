@@ -5,6 +5,7 @@ ghost use lib.IntN.{pos, _-ℤ_};
 ghost use lib.ListN.{getD};
 ghost use Rattle.nets.specs.Nets.{_⊞_};
 ghost use Rattle.pairs.specs.Range.{Constants, Values};
+use terms::Place;
 
 pub struct Window {
     pub lo: i32,
@@ -33,12 +34,12 @@ fn sum(weight: u8, more: u16) -> u16
 }
 
 // The weights taken and a vector beside them.
-pub fn beside(taken: [u8; 16], x: [u16; 16]) -> [u16; 16]
+pub fn beside(taken: [u8; Place::MOST], x: [u16; Place::MOST]) -> [u16; Place::MOST]
     requires { ⌜ ((p : ℕ) → getD x p 0 ≤ 19900) ⌝ }
     ensures { λ r. ⌜ r ≡ taken ⊞ x ⌝ }
 {
-    let mut m = [0u16; 16];
-    for p in 0..16 {
+    let mut m = [0u16; Place::MOST];
+    for p in 0..Place::MOST {
         m[p] = sum(taken[p], x[p]);
     }
     m

@@ -1,7 +1,14 @@
 // What the lent areas hold before a question, sevens, and what is left in them afterwards.
+use terms::Area;
+
 const SEVEN: u8 = 7;
 
 const SEVENS: u16 = 7000;
+
+const TOO_FEW: usize = Area::SIZE - 1;
+
+// More entries than are asked for.
+pub const MANY: usize = Area::SIZE + 8;
 
 pub struct Sizes {
     pub marks: usize,
@@ -12,21 +19,21 @@ pub struct Sizes {
 pub fn sizes_of(kind: u8) -> Sizes {
     match kind {
         1 => Sizes {
-            marks: 19999,
-            queue: 20000,
+            marks: TOO_FEW,
+            queue: Area::SIZE,
         },
         2 => Sizes {
-            marks: 20000,
-            queue: 19999,
+            marks: Area::SIZE,
+            queue: TOO_FEW,
         },
         3 => Sizes {
-            marks: 20008,
-            queue: 20008,
+            marks: MANY,
+            queue: MANY,
         },
         4 => Sizes { marks: 0, queue: 0 },
         _ => Sizes {
-            marks: 20000,
-            queue: 20000,
+            marks: Area::SIZE,
+            queue: Area::SIZE,
         },
     }
 }
@@ -58,10 +65,13 @@ fn told(zeros: usize, rest: bool) -> Left {
     if !rest {
         return Left::Dirty;
     }
-    match zeros {
-        0 => Left::Kept,
-        20000 => Left::Zero,
-        _ => Left::Dirty,
+    if zeros == 0 {
+        return Left::Kept;
+    }
+    if zeros == Area::SIZE {
+        Left::Zero
+    } else {
+        Left::Dirty
     }
 }
 

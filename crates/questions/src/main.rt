@@ -71,8 +71,8 @@ fn next_question(room: &mut [u8], marks: &mut [u8], queue: &mut [u16]) -> bool {
 // A proved loop has to end, so it counts its turns down from a number that no run uses up.
 fn main() {
     let mut room = io::large_buffer();
-    let mut marks = [0u8; 20008];
-    let mut queue = [0u16; 20008];
+    let mut marks = [0u8; areas::MANY];
+    let mut queue = [0u16; areas::MANY];
     let mut turns = u64::MAX;
     while turns > 0 && next_question(&mut room, &mut marks, &mut queue) {
         turns -= 1;

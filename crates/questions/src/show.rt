@@ -2,6 +2,7 @@
 use super::areas::Left;
 use pairs::Answer;
 use pairs::Pair;
+use terms::Place;
 use terms::Refusal;
 
 const STDOUT: i32 = 1;
@@ -40,7 +41,7 @@ pub fn show_pair(p: Pair) {
     answer(a);
     say(b" marking");
     let m = p.marking;
-    for q in 0..16 {
+    for q in 0..Place::MOST {
         number16(m[q]);
     }
 }

@@ -14,6 +14,7 @@ use super::fields::whole;
 use super::layout::behind_transitions;
 use super::layout::target_from;
 use super::runs::transitions;
+use terms::Kind;
 use terms::Place;
 use terms::Transition;
 
@@ -68,7 +69,7 @@ fn target(s: &[u8], n: usize, at: usize) -> Check
     let Check::Fine = open else {
         return open;
     };
-    if 1 < s[at + 2] {
+    if Kind::MOST < s[at + 2] {
         return refuse(5, at + 2);
     }
     Check::Fine

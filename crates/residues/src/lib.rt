@@ -19,6 +19,7 @@ use signs::sort_of;
 use table::after;
 use table::fill;
 use table::wide;
+use terms::Place;
 
 // All coefficients are zero; some are above zero and none below; some below and none above; both.
 pub enum Sort {
@@ -46,7 +47,7 @@ fn one_sign(sort: Sort) -> bool
 }
 
 // The first n of k count. There is a table only where the coefficients have one sign.
-pub fn table_of(k: [i8; 16], n: usize, table: &mut [u16]) -> Reach
+pub fn table_of(k: [i8; Place::MOST], n: usize, table: &mut [u16]) -> Reach
     requires { ⌜ (n ≤ 16) × (100 ≤ length (now table)) × Within (sizes (take n k)) ⌝ }
     ensures { λ r. ⌜ Told (take n k) r (now (table .exit)) ⌝ }
 {

@@ -7,7 +7,11 @@ ghost use Rattle.residues.specs.Sums.{sizes, Within};
 ghost use Rattle.residues.specs.Steps.{Smaller, NotAll0, Smallest};
 ghost use Rattle.residues.specs.Told.{Says, IsSort};
 use crate::Sort;
+use terms::Coefficient;
 use terms::size;
+
+// Above every size of a coefficient.
+const ABOVE: usize = Coefficient::MOST as usize + 1;
 
 pub fn some_above(k: &[i8]) -> bool
     ensures { λ r. ⌜ Says r (SomeAbove (now (k .entry))) ⌝ }
@@ -67,7 +71,7 @@ pub fn smallest(k: &[i8]) -> usize
     requires { ⌜ Within (sizes (now k)) × NotAll0 (sizes (now k)) ⌝ }
     ensures { λ r. ⌜ Smallest (sizes (now (k .entry))) r ⌝ }
 {
-    let mut m = 101; // above every size
+    let mut m = ABOVE;
     let mut i = 0;
     while i < k.len() {
         m = smaller(size_of(k[i]), m);

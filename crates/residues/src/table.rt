@@ -6,9 +6,10 @@ ghost use lib.ListN.{length, getD};
 ghost use Rattle.residues.specs.Sums.{sizes};
 ghost use Rattle.residues.specs.Steps.{Blank, Closed, Ready, Swept, Tabled};
 use crate::signs::size_of;
+use terms::Constant;
 
 // One more than the largest constant: no window asks for a value of that size.
-const FAR: u16 = 5001;
+const FAR: u16 = Constant::MOST as u16 + 1;
 
 pub fn wide(x: u16) -> usize
     ensures { λ r. ⌜ r ≡ x ⌝ }

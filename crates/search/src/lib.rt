@@ -20,10 +20,11 @@ use distinct::distinct;
 use distinct::spread;
 use table::longest;
 use table::placed;
+use terms::Place;
 
 pub struct Found {
     pub hit: bool,
-    pub x: [u16; 16],
+    pub x: [u16; Place::MOST],
 }
 
 // The answer for as many coefficients as there are; the counts go to x.
@@ -59,22 +60,29 @@ fn over(
     ensures { λ r. ⌜ Over (now (row .entry)) (now (places .entry)) lo hi (now (x .exit)) r ⌝ }
 {
     let m = row.len();
-    let mut y = [0u16; 16];
+    let mut y = [0u16; Place::MOST];
     let hit = look(row, lo, hi, marks, queue, &mut y[..m]);
     spread(places, &y[..m], x);
     hit
 }
 
 // The first n of k count. What the areas hold before does not matter, and what they hold afterwards is not said: `areas::wipe` clears them.
-pub fn find(k: [i8; 16], n: usize, lo: i32, hi: i32, marks: &mut [u8], queue: &mut [u16]) -> Found
+pub fn find(
+    k: [i8; Place::MOST],
+    n: usize,
+    lo: i32,
+    hi: i32,
+    marks: &mut [u8],
+    queue: &mut [u16],
+) -> Found
     requires { ⌜ (n ≤ 16) × (length (now marks) ≡ 20000) × (length (now queue) ≡ 20000) ⌝ }
     requires { ⌜ Ends lo hi ⌝ }
     ensures { λ r. ⌜ Searched (take n k) lo hi n r ⌝ }
 {
-    let mut row = [0i8; 16];
-    let mut places = [0u8; 16];
+    let mut row = [0i8; Place::MOST];
+    let mut places = [0u8; Place::MOST];
     let m = distinct(&k[..n], &mut row[..n], &mut places[..n]);
-    let mut x = [0u16; 16];
+    let mut x = [0u16; Place::MOST];
     let hit = over(&row[..m], &places[..m], lo, hi, marks, queue, &mut x[..n]);
     Found { hit, x }
 }

@@ -7,6 +7,8 @@ use Rattle.terms.specs.Limits.{among}
 use Rattle.terms.specs.Refusals.{notAClaim, notATransition}
 use Rattle.terms.specs.declared.Transition.{Transition}
 use Rattle.terms.specs.declared.Claim.{Claim}
+use Rattle.terms.specs.declared.Kind.{Kind}
+use Rattle.terms.specs.declared.Kind.the-variants.{Exact, AtOrAbove}
 use Rattle.nets.specs.Nets.{transition}
 use Rattle.nets.specs.HalfSpaces.{sixteen}
 use Rattle.nets.specs.Verdicts as verdicts
@@ -17,8 +19,6 @@ use Rattle.reader.specs.declared.Check.the-variants.{Fine, Refused}
 use Rattle.sheet.specs.declared.Weights.{Weights}
 use Rattle.sheet.specs.declared.Start.{Start}
 use Rattle.sheet.specs.declared.Target.{Target}
-use Rattle.sheet.specs.declared.Kind.{Kind}
-use Rattle.sheet.specs.declared.Kind.the-variants.{Exact, AtOrAbove}
 use Rattle.sheet.specs.declared.HalfSpace.{HalfSpace}
 
 -- 11: claim number 0 or above the count

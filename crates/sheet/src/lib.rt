@@ -1,7 +1,7 @@
 // What a sheet holds: document 01, "What the sheet holds". Each call reads the whole sheet first and passes its refusal on.
 ghost use mathlib.Core.Path.{_≡_};
-ghost use Rattle.format.specs.Reading.{reading, kindOf};
-ghost use Rattle.sheet.specs.Held.{kindIs, claimCheck, weightsOf, startOf, targetOf, halfSpaceOf, noWeights, noHalfSpace};
+ghost use Rattle.format.specs.Reading.{reading};
+ghost use Rattle.sheet.specs.Held.{claimCheck, weightsOf, startOf, targetOf, halfSpaceOf, noWeights, noHalfSpace};
 ghost use Rattle.sheet.specs.Part.{IsPart, recordAt, recordBytes};
 
 pub mod rows; // rows.rt: sixteen numbers of one kind
@@ -17,6 +17,7 @@ use rows::tokens_from;
 use rows::weights_from;
 use terms::Claim;
 use terms::Constant;
+use terms::Kind;
 use terms::Place;
 use terms::Refusal;
 use terms::Transition;
@@ -24,38 +25,24 @@ use terms::among;
 
 pub struct Weights {
     pub answer: Check,
-    pub taken: [u8; 16],
-    pub put: [u8; 16],
+    pub taken: [u8; Place::MOST],
+    pub put: [u8; Place::MOST],
 }
 
 pub struct Start {
     pub answer: Check,
-    pub tokens: [u16; 16],
-}
-
-// Kind 0 is one exact marking; kind 1 is every marking at or above it in each place.
-pub enum Kind {
-    Exact,
-    AtOrAbove,
-}
-
-impl Kind {
-    fn of_byte(b: u8) -> Kind
-        ensures { λ r. ⌜ r ≡ kindIs (kindOf b) ⌝ }
-    {
-        if b == 0 { Kind::Exact } else { Kind::AtOrAbove }
-    }
+    pub tokens: [u16; Place::MOST],
 }
 
 pub struct Target {
     pub answer: Check,
     pub kind: Kind,
-    pub tokens: [u16; 16],
+    pub tokens: [u16; Place::MOST],
 }
 
 pub struct HalfSpace {
     pub answer: Check,
-    pub coefficients: [i8; 16],
+    pub coefficients: [i8; Place::MOST],
     pub constant: i16,
 }
 

@@ -11,7 +11,7 @@ use terms::Coefficient;
 use terms::Constant;
 use terms::Place;
 
-pub fn weights_from(s: &[u8], at: usize, n: usize) -> [u8; 16]
+pub fn weights_from(s: &[u8], at: usize, n: usize) -> [u8; Place::MOST]
     requires { ⌜ (n ≤ 16) × (at + n ≤ length (now s)) ⌝ }
     ensures { λ r. ⌜ r ≡ sixteen 0 (bytes (now (s .entry)) at n) ⌝ }
 {
@@ -30,7 +30,7 @@ fn two_bytes(s: &[u8], at: usize) -> u16
     (s[at] as u16) + 256 * (s[at + 1] as u16)
 }
 
-pub fn tokens_from(s: &[u8], at: usize, n: usize) -> [u16; 16]
+pub fn tokens_from(s: &[u8], at: usize, n: usize) -> [u16; Place::MOST]
     requires { ⌜ (n ≤ 16) × (at + 2 * n ≤ length (now s)) ⌝ }
     ensures { λ r. ⌜ r ≡ sixteen 0 (words (now (s .entry)) at n) ⌝ }
 {
@@ -41,7 +41,7 @@ pub fn tokens_from(s: &[u8], at: usize, n: usize) -> [u16; 16]
     row
 }
 
-pub fn coefficients_from(s: &[u8], at: usize, n: usize) -> [i8; 16]
+pub fn coefficients_from(s: &[u8], at: usize, n: usize) -> [i8; Place::MOST]
     requires { ⌜ (n ≤ 16) × (at + n ≤ length (now s)) ⌝ }
     ensures { λ r. ⌜ r ≡ sixteen (pos 0) (map twos8 (bytes (now (s .entry)) at n)) ⌝ }
 {
@@ -56,7 +56,7 @@ pub fn coefficients_from(s: &[u8], at: usize, n: usize) -> [i8; 16]
 
 // A claim's numbers: sixteen coefficients, zero beyond place n, and the constant.
 pub struct Numbers {
-    pub coefficients: [i8; 16],
+    pub coefficients: [i8; Place::MOST],
     pub constant: i16,
 }
 

@@ -3,6 +3,7 @@ ghost use mathlib.Core.Path.{_≡_};
 ghost use lib.IntN.{natAbs};
 ghost use Rattle.signed.specs.Twos.{twos8, twos16};
 ghost use Rattle.terms.specs.Limits.{among as isAmong, placesFit, transitionsFit, weightFits, coefficientFits, constantFits, areasFit};
+ghost use Rattle.terms.specs.Kinds.{kindOfByte};
 ghost use Rattle.terms.specs.Refusals.{detailOf, refusedAt, notAClaim, notATransition, smallArea, notEnabled, tooMany, smallText};
 
 // Places, transitions and claims are counted apart, each from 1: none is ever taken for another.
@@ -69,6 +70,22 @@ impl Weight {
         ensures { λ r. ⌜ r ≡ weightFits (self .0) ⌝ }
     {
         self.0 <= Weight::MOST
+    }
+}
+
+// Kind 0 is one exact marking; kind 1 is every marking at or above it in each place.
+pub enum Kind {
+    Exact,
+    AtOrAbove,
+}
+
+impl Kind {
+    pub const MOST: u8 = 1;
+
+    pub fn of_byte(b: u8) -> Kind
+        ensures { λ r. ⌜ r ≡ kindOfByte b ⌝ }
+    {
+        if b == 0 { Kind::Exact } else { Kind::AtOrAbove }
     }
 }
 

@@ -3,6 +3,7 @@ ghost use mathlib.Core.Path.{_≡_};
 ghost use Prim.Native.Nat.{_≤_};
 ghost use lib.ListN.{take};
 ghost use Rattle.twins.specs.Divisors.{IsGcd, IsCommon, IsDivisorOf, spaceOf};
+use terms::Place;
 use terms::size;
 
 // A coefficient, as wide as a constant.
@@ -19,7 +20,7 @@ pub fn gcd(a: u32, b: u32) -> u32
 }
 
 // The divisor of the first n coefficients.
-fn row_divisor(k: [i8; 16], n: usize) -> u32
+fn row_divisor(k: [i8; Place::MOST], n: usize) -> u32
     requires { ⌜ n ≤ 16 ⌝ }
     ensures { λ r. ⌜ IsCommon (take n k) r × (r ≤ 32768) ⌝ }
 {
@@ -32,7 +33,7 @@ fn row_divisor(k: [i8; 16], n: usize) -> u32
 }
 
 // The divisor of a claim: of its coefficients, then of that and the constant; 0 where all are zero.
-pub fn divisor(k: [i8; 16], n: usize, c: i16) -> u32
+pub fn divisor(k: [i8; Place::MOST], n: usize, c: i16) -> u32
     requires { ⌜ n ≤ 16 ⌝ }
     ensures { λ r. ⌜ IsDivisorOf (spaceOf n k c) r × (r ≤ 32768) ⌝ }
 {

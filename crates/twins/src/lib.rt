@@ -32,7 +32,7 @@ use terms::among;
 
 pub struct Reduced {
     pub answer: Check,
-    pub coefficients: [i8; 16],
+    pub coefficients: [i8; Place::MOST],
     pub constant: i16,
 }
 

@@ -12,6 +12,7 @@ use super::euclid::wide;
 use super::reduction::Form;
 use terms::Coefficient;
 use terms::Constant;
+use terms::Place;
 use terms::size;
 
 // A place of a form where it isn't zero, counted from 0 with the constant at n, and the size of the number there.
@@ -21,7 +22,7 @@ pub struct Pivot {
 }
 
 // The first place that isn't zero, or the constant's.
-pub fn pivot_of(k: [i8; 16], n: usize, c: i16) -> Pivot
+pub fn pivot_of(k: [i8; Place::MOST], n: usize, c: i16) -> Pivot
     requires { ⌜ n ≤ 16 ⌝ }
     ensures { λ r. ⌜ IsPivot (spaceOf n k c) (r .place) (r .size) ⌝ }
 {
@@ -74,7 +75,7 @@ fn is_times(x: i16, y: i16, d: u32) -> bool
 }
 
 // Are n coefficients that stand in a sheet, from a byte on, d times these?
-fn row_is_times(sheet: &[u8], at: usize, n: usize, k: [i8; 16], d: u32) -> bool
+fn row_is_times(sheet: &[u8], at: usize, n: usize, k: [i8; Place::MOST], d: u32) -> bool
     requires { ⌜ (n ≤ 16) × (d ≤ 32768) × (at + n ≤ length (now sheet)) ⌝ }
     ensures { λ r. ⌜ Tells r (map twos8 (bytes (now (sheet .entry)) at n) ≡ map (λ (z : ℤ). z *ℤ pos d) (take n k)) ⌝ }
 {

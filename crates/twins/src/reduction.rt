@@ -12,7 +12,7 @@ use super::euclid::wide;
 use terms::Place;
 
 pub struct Form {
-    pub coefficients: [i8; 16],
+    pub coefficients: [i8; Place::MOST],
     pub constant: i16,
 }
 
@@ -28,7 +28,7 @@ fn exact(z: i16, g: u32) -> i16
 }
 
 // The first n coefficients, each divided; zeros stand beyond place n.
-fn row_divided(k: [i8; 16], n: usize, g: u32) -> [i8; 16]
+fn row_divided(k: [i8; Place::MOST], n: usize, g: u32) -> [i8; Place::MOST]
     requires { ⌜ (n ≤ 16) × (1 ≤ g) × (g ≤ 32768) × EachOf (Divides g) (take n k) ⌝ }
     ensures { λ r. ⌜ (take n k ≡ map (λ (z : ℤ). z *ℤ pos g) (take n r)) × (r ≡ sixteen (pos 0) (take n r)) ⌝ }
 {
@@ -49,7 +49,7 @@ fn at_least_one(g: u32) -> u32
 }
 
 // The first n coefficients and the constant, divided by their divisor; where all are zero it is the claim itself.
-pub fn reduced(k: [i8; 16], n: usize, c: i16) -> Form
+pub fn reduced(k: [i8; Place::MOST], n: usize, c: i16) -> Form
     requires { ⌜ n ≤ 16 ⌝ }
     ensures { λ r. ⌜ IsReduced (spaceOf n k c) (spaceOf n (r .coefficients) (r .constant)) × (r .coefficients ≡ sixteen (pos 0) (take n (r .coefficients))) ⌝ }
 {

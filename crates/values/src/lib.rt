@@ -6,6 +6,7 @@ ghost use lib.Signed.{_≤ℤ_};
 ghost use lib.ListN.{length, take};
 ghost use Rattle.nets.specs.HalfSpaces.{value};
 ghost use Rattle.format.specs.Reading.{bytes};
+use terms::Place;
 
 // A coefficient times the tokens of its place.
 fn term(k: i8, tokens: u16) -> i32
@@ -21,18 +22,18 @@ fn wide(weight: u8) -> u16
 }
 
 // The value of sixteen numbers of tokens.
-pub fn value_of(k: [i8; 16], tokens: [u16; 16]) -> i32
+pub fn value_of(k: [i8; Place::MOST], tokens: [u16; Place::MOST]) -> i32
     ensures { λ r. ⌜ r ≡ value k tokens ⌝ }
 {
     let mut sum: i32 = 0;
-    for p in 0..16 {
+    for p in 0..Place::MOST {
         sum += term(k[p], tokens[p]);
     }
     sum
 }
 
 // The value of n weights that stand in a sheet, from a byte on.
-pub fn value_at(k: [i8; 16], s: &[u8], at: usize, n: usize) -> i32
+pub fn value_at(k: [i8; Place::MOST], s: &[u8], at: usize, n: usize) -> i32
     requires { ⌜ (n ≤ 16) × (at + n ≤ length (now s)) ⌝ }
     ensures { λ r. ⌜ r ≡ value (take n k) (bytes (now (s .entry)) at n) ⌝ }
 {

@@ -9,10 +9,11 @@ ghost use Rattle.pairs.specs.Crosses.{space};
 ghost use Rattle.residues.specs.Told.{Says};
 use residues::signs::some_above;
 use sheet::rows::tokens_from;
+use terms::Place;
 use values::value_of;
 
 // The marking whose n numbers of tokens stand from a byte on.
-pub fn inside_at(k: [i8; 16], c: i16, sheet: &[u8], at: usize, n: usize) -> bool
+pub fn inside_at(k: [i8; Place::MOST], c: i16, sheet: &[u8], at: usize, n: usize) -> bool
     requires { ⌜ (n ≤ 16) × (at + 2 * n ≤ length (now sheet)) ⌝ }
     ensures { λ r. ⌜ Says r (Inside (space (take n k) c) (words (now (sheet .entry)) at n)) ⌝ }
 {
@@ -21,7 +22,7 @@ pub fn inside_at(k: [i8; 16], c: i16, sheet: &[u8], at: usize, n: usize) -> bool
 }
 
 // Some marking of the target whose record starts at a byte: the written one, or for kind 1 one above it.
-pub fn target_inside(k: [i8; 16], c: i16, sheet: &[u8], at: usize, n: usize) -> bool
+pub fn target_inside(k: [i8; Place::MOST], c: i16, sheet: &[u8], at: usize, n: usize) -> bool
     requires { ⌜ (n ≤ 16) × (at + 3 + 2 * n ≤ length (now sheet)) ⌝ }
     ensures { λ r. ⌜ ((q : Setting) → q .target ≡ targetIn (now (sheet .entry)) n at → Says r (TargetInside q (space (take n k) c))) ⌝ }
 {

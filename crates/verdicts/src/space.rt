@@ -21,11 +21,12 @@ use reader::layout::behind_claims;
 use reader::layout::behind_transitions;
 use reader::layout::target_from;
 use sheet::rows::numbers_at;
+use terms::Place;
 use terms::Transition;
 
 // The coefficients k and the constant c, against the net, the start and the target of a sound sheet.
 pub fn judge_space(
-    k: [i8; 16],
+    k: [i8; Place::MOST],
     c: i16,
     sheet: &[u8],
     counts: Counts,

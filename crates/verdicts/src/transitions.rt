@@ -16,13 +16,14 @@ use reader::layout::behind_transitions;
 use residues::Reach;
 use residues::breaks;
 use residues::table_of;
+use terms::Place;
 use values::value_at;
 
 // Does the transition whose record starts at a byte break it?
 fn breaks_at(
     reach: Reach,
     table: &[u16],
-    k: [i8; 16],
+    k: [i8; Place::MOST],
     c: i16,
     sheet: &[u8],
     n: usize,
@@ -39,7 +40,13 @@ fn breaks_at(
 }
 
 // The number of the lowest transition that breaks it, and 0 where every one keeps it. What the coefficients alone say is worked out once.
-pub fn first_broken(k: [i8; 16], c: i16, sheet: &[u8], counts: Counts, table: &mut [u16]) -> usize
+pub fn first_broken(
+    k: [i8; Place::MOST],
+    c: i16,
+    sheet: &[u8],
+    counts: Counts,
+    table: &mut [u16],
+) -> usize
     requires { ⌜ Known (now sheet) counts ⌝ }
     requires { ⌜ Row (counts .places) IsCoefficient (take (counts .places) k) × Constants c ⌝ }
     requires { ⌜ 100 ≤ length (now table) ⌝ }

@@ -16,13 +16,14 @@ use reader::layout::behind_transitions;
 use reader::read;
 use sheet::rows::weights_from;
 use sheet::start_of;
+use terms::Place;
 use terms::Refusal;
 use terms::Transition;
 use terms::among;
 
 // The net's places stand first; the numbers beyond them are the lender's own.
 pub struct Marking {
-    pub tokens: [u16; 16],
+    pub tokens: [u16; Place::MOST],
 }
 
 pub struct Begun {
@@ -49,7 +50,7 @@ pub fn begin(sheet: &[u8]) -> Begun
 }
 
 // A firing by its weights.
-fn firing(m: Marking, taken: [u8; 16], put: [u8; 16], n: usize) -> Moved
+fn firing(m: Marking, taken: [u8; Place::MOST], put: [u8; Place::MOST], n: usize) -> Moved
     requires { ⌜ n ≤ 16 ⌝ }
     ensures { λ r. ⌜ r ≡ firingOf n (weighted n taken put) m ⌝ }
 {

@@ -17,7 +17,7 @@ fn wide(weight: u8) -> u16
 }
 
 // The lowest place that has fewer tokens than are taken.
-pub fn short(tokens: [u16; 16], taken: [u8; 16], n: usize) -> Check
+pub fn short(tokens: [u16; Place::MOST], taken: [u8; Place::MOST], n: usize) -> Check
     requires { ⌜ n ≤ 16 ⌝ }
     ensures { λ r. ⌜ r ≡ lowestShort n (take n taken) (take n tokens) ⌝ }
 {
@@ -32,7 +32,12 @@ pub fn short(tokens: [u16; 16], taken: [u8; 16], n: usize) -> Check
 }
 
 // The lowest place that would pass the most tokens, once those taken have left.
-pub fn over(tokens: [u16; 16], taken: [u8; 16], put: [u8; 16], n: usize) -> Check
+pub fn over(
+    tokens: [u16; Place::MOST],
+    taken: [u8; Place::MOST],
+    put: [u8; Place::MOST],
+    n: usize,
+) -> Check
     requires { ⌜ (n ≤ 16) × (lowestShort n (take n taken) (take n tokens) ≡ Fine) ⌝ }
     ensures { λ r. ⌜ r ≡ lowestOver n (fire (weighted n taken put) (take n tokens)) ⌝ }
 {
@@ -49,7 +54,12 @@ pub fn over(tokens: [u16; 16], taken: [u8; 16], put: [u8; 16], n: usize) -> Chec
 }
 
 // The marking after a firing that no place refuses.
-pub fn fired(tokens: [u16; 16], taken: [u8; 16], put: [u8; 16], n: usize) -> [u16; 16]
+pub fn fired(
+    tokens: [u16; Place::MOST],
+    taken: [u8; Place::MOST],
+    put: [u8; Place::MOST],
+    n: usize,
+) -> [u16; Place::MOST]
     requires { ⌜ (n ≤ 16) × (lowestShort n (take n taken) (take n tokens) ≡ Fine) × (lowestOver n (fire (weighted n taken put) (take n tokens)) ≡ Fine) ⌝ }
     ensures { λ r. ⌜ r ≡ firedIn n (weighted n taken put) tokens ⌝ }
 {

@@ -6,6 +6,7 @@ mod show; // show.rt: answers and markings in words
 use show::show_begun;
 use show::show_end;
 use show::show_moved;
+use terms::Place;
 use terms::Transition;
 use walk::Marking;
 
@@ -17,8 +18,8 @@ fn two_bytes(lo: u8, hi: u8) -> u16 {
 }
 
 fn marking_of(head: [u8; 33]) -> Marking {
-    let mut tokens = [0u16; 16];
-    for p in 0..16 {
+    let mut tokens = [0u16; Place::MOST];
+    for p in 0..Place::MOST {
         tokens[p] = two_bytes(head[2 * p], head[2 * p + 1]);
     }
     Marking { tokens }

@@ -1,5 +1,6 @@
 // Answers and markings in words.
 use reader::Check;
+use terms::Place;
 use terms::Refusal;
 use walk::Begun;
 use walk::Marking;
@@ -29,7 +30,7 @@ fn refusal(r: Refusal) {
 
 fn marking(m: Marking) {
     let tokens = m.tokens;
-    for p in 0..16 {
+    for p in 0..Place::MOST {
         number16(tokens[p]);
     }
 }

@@ -2,20 +2,32 @@
 use mathlib.Core.Path.{_≡_, refl, _∙_, sym, ap, ap₂}
 use native.Mathlib.Omega.{arith}
 use mathlib.Core.List.{List}
+use mathlib.Core.Bool.{Bool, true, false, cond}
 use Prim.Native.Nat.{ℕ, _+_, _*_, _≤_}
-use Rattle.format.specs.Reading.{byte, bytes, words, signedWord, transitionIn, targetIn, claimIn, reading}
+use lib.Dec.{eqb}
+use Rattle.format.specs.Reading.{byte, kindOf, reading}
+use Rattle.format.specs.Read.{choose}
 use Rattle.format.proofs.Places.{held}
+use Rattle.terms.specs.Kinds.{kindOfByte}
+use Rattle.terms.specs.declared.Kind.{Kind}
+use Rattle.terms.specs.declared.Kind.the-variants.{Exact, AtOrAbove}
 use Rattle.nets.specs.HalfSpaces.{sixteen}
 use Rattle.nets.specs.Verdicts as verdicts
 use Rattle.reader.specs.Answers.{checkOf}
 use Rattle.reader.specs.declared.Check.the-variants.{Fine}
 use Rattle.sheet.specs.Held.{kindIs, noTarget, targetOf}
 use Rattle.sheet.specs.declared.Target.{Target}
-use Rattle.sheet.specs.declared.Kind.{Kind}
 use Rattle.sheet.proofs.Taken.{sound-answer, refused-answer, most, target-fits, target-taken}
 use borrow.Author.Needs.{needs}
 use Rattle.sheet.proofs.target_of.Statement.{statement}
 use Rattle.sheet.proofs.target_of.Tie as tie
+
+kinds-agree : (b : ℕ) → kindOfByte b ≡ kindIs (kindOf b)
+kinds-agree b = by (eqb b 0)
+  where
+    by : (q : Bool) → cond q Exact AtOrAbove ≡ kindIs (choose q verdicts.exact verdicts.atOrAbove)
+    by true = refl
+    by false = refl
 
 read-requires : tie.Need-read-requires
 read-requires c κs = search needs
@@ -75,7 +87,7 @@ returns-2 c =
     let k = c .before .before .before .before .before .answer .given .0 .0 in
     let x = sound-answer (reading (a .sheet .now)) (sym (c .before .before .before .before .before .before .before .read .ensures) ∙ c .before .before .before .before .before .answer .given .1) in
     let h = held (a .sheet .now) (x .0) (x .1) in
-    ap₂ {C = Target} (λ (q : Kind) (m : List ℕ). record { answer = Fine; kind = q; tokens = m }) (c .before .of-byte .ensures) (c .tokens-from .ensures)
+    ap₂ {C = Target} (λ (q : Kind) (m : List ℕ). record { answer = Fine; kind = q; tokens = m }) (c .before .of-byte .ensures ∙ kinds-agree (byte (a .sheet .now) (c .before .before .before .target-from .result + 2))) (c .tokens-from .ensures)
     ∙ ap {B = Target} (λ (g : verdicts.Target). record { answer = Fine; kind = kindIs (g .kind); tokens = sixteen 0 (g .tokens) }) (target-taken (a .sheet .now) (x .0) k h (x .2) (c .before .before .before .target-from .result) (c .before .before .before .target-from .ensures .0))
     ∙ ap targetOf (sym (x .1))
 
