@@ -7,13 +7,14 @@ ghost use Rattle.format.specs.Read.{sound};
 ghost use Rattle.format.specs.Contents.{Contents};
 ghost use Rattle.format.specs.Reading.{reading};
 ghost use Rattle.sheet.specs.Known.{Known};
-ghost use Rattle.search.specs.Searched.{Wiped};
+ghost use Rattle.lent.specs.Wiped.{Wiped};
 ghost use Rattle.pairs.specs.Pairs.{areaAfter};
 ghost use Rattle.text.specs.Bytes.{Wrote};
 ghost use Rattle.listing.specs.Listed.{IsLine, IsListing, IsListed, IsRefusalText, roomCheck, listingCheck, passedListed};
 
 mod lines; // lines.rt: the lines of a listing
 
+use lent::wipe;
 use lines::claim_line;
 use lines::counts_line;
 use lines::refusal_line;
@@ -21,7 +22,6 @@ use reader::Check;
 use reader::Counts;
 use reader::Reading;
 use reader::read;
-use search::areas::wipe;
 use terms::Area;
 use terms::Refusal;
 use terms::Text;

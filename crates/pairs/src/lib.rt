@@ -2,7 +2,7 @@
 ghost use mathlib.Core.Path.{_≡_};
 ghost use Prim.Native.Nat.{_≤_};
 ghost use lib.ListN.{length};
-ghost use Rattle.search.specs.Searched.{Wiped};
+ghost use Rattle.lent.specs.Wiped.{Wiped};
 ghost use Rattle.nets.specs.Nets.{transition};
 ghost use Rattle.format.specs.Read.{sound};
 ghost use Rattle.format.specs.Contents.{Contents, halfSpace, claim};
@@ -15,13 +15,13 @@ mod window; // window.rt: the ends of Theorem 1's window, and the marking beside
 
 use crossing::Crossing;
 use crossing::crossing_of;
+use lent::wipe;
 use reader::Check;
 use reader::Counts;
 use reader::Reading;
 use reader::layout::behind_claims;
 use reader::layout::behind_transitions;
 use reader::read;
-use search::areas::wipe;
 use sheet::rows::numbers_at;
 use terms::Area;
 use terms::Claim;

@@ -1,6 +1,4 @@
-pub mod Lent
 pub mod Theory
-pub mod Fills
 pub mod Queue
 pub mod Backward
 pub mod Answer

@@ -44,7 +44,3 @@ pub record Ends (lo hi : ℤ) : Type 0 where
   pub low : negsuc 19499 ≤ℤ lo
   pub high : lo ≤ℤ pos 19500
   pub top : hi ≤ℤ pos 19500
-
--- of an area: the first n entries are 0 afterwards, and the others as they were
-abbrev pub Wiped : ℕ → List ℕ → List ℕ → Type 0
-Wiped n old new = new ≡ replicate n 0 ++ drop n old

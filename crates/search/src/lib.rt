@@ -8,16 +8,15 @@ ghost use Rattle.search.specs.Searched.{Searched, Ends};
 ghost use Rattle.search.specs.Table.{Looked};
 ghost use Rattle.search.specs.Row.{Inside, Over};
 
-pub mod areas; // areas.rt: the areas are cleared
 mod back; // back.rt: the counts that lead to an entry of the queue
 mod distinct; // distinct.rt: each coefficient once, and counts put back at their places
 mod steps; // steps.rt: the search itself
 mod table; // table.rt: where the table puts 0 and the window
 
-use areas::clear8;
 use back::search;
 use distinct::distinct;
 use distinct::spread;
+use lent::clear8;
 use table::longest;
 use table::placed;
 use terms::Place;
@@ -66,7 +65,7 @@ fn over(
     hit
 }
 
-// The first n of k count. What the areas hold before does not matter, and what they hold afterwards is not said: `areas::wipe` clears them.
+// The first n of k count. What the areas hold before does not matter, and what they hold afterwards is not said: `lent::wipe` clears them.
 pub fn find(
     k: [i8; Place::MOST],
     n: usize,

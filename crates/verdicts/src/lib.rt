@@ -2,7 +2,7 @@
 ghost use mathlib.Core.Path.{_≡_};
 ghost use Prim.Native.Nat.{_≤_};
 ghost use lib.ListN.{length};
-ghost use Rattle.search.specs.Searched.{Wiped};
+ghost use Rattle.lent.specs.Wiped.{Wiped};
 ghost use Rattle.format.specs.Read.{sound};
 ghost use Rattle.format.specs.Contents.{Contents, halfSpace, claim};
 ghost use Rattle.format.specs.Reading.{reading};
@@ -14,11 +14,11 @@ mod inside; // inside.rt: do the start, or some target marking, lie inside?
 pub mod space; // space.rt: the verdict on a half space, and on a claim of a sheet that was read
 mod transitions; // transitions.rt: the lowest transition that breaks a half space
 
+use lent::wipe;
 use reader::Check;
 use reader::Counts;
 use reader::Reading;
 use reader::read;
-use search::areas::wipe;
 use space::judge_claim;
 use terms::Area;
 use terms::Claim;

@@ -1,4 +1,4 @@
--- `search::areas::clear8` meets its contract. After i turns the first i entries are 0 and the others are as they were.
+-- `lent::clear16` meets its contract. After i turns the first i entries are 0 and the others are as they were.
 use mathlib.Core.Path.{_≡_, refl, ap, _∙_}
 use mathlib.Core.List.{List, _++_}
 use Prim.Native.Nat.{ℕ, _≤_, _-_}
@@ -6,9 +6,9 @@ use native.Mathlib.Omega.{arith}
 use lib.ListN.{length, drop, replicate, set, length-set}
 use borrow.Author.Needs.{needs}
 use borrow.Author.Fill.{fill-more}
-use Rattle.search.proofs.Fills.{filled}
-use Rattle.search.proofs.areas.clear8.Statement.{statement}
-use Rattle.search.proofs.areas.clear8.Tie as tie
+use Rattle.lent.proofs.Fills.{filled}
+use Rattle.lent.proofs.clear16.Statement.{statement}
+use Rattle.lent.proofs.clear16.Tie as tie
 
 abbrev Inv-loop : tie.InvT-loop
 Inv-loop a₀ i₀ a i = (i ≤ length a₀) × (length a ≡ length a₀) × (a ≡ replicate i 0 ++ drop i a₀)
@@ -18,6 +18,9 @@ abbrev μ-loop : tie.MeasureT-loop
 
 loop-holds : tie.Need-loop-holds Inv-loop μ-loop
 loop-holds c = (omega arith, refl, refl)
+
+mul-a : tie.Need-mul-a Inv-loop μ-loop
+mul-a c = search needs
 
 slice-write-a : tie.Need-slice-write-a Inv-loop μ-loop
 slice-write-a c = search needs
@@ -42,5 +45,5 @@ same-length c = search needs
 returns : tie.Need-returns Inv-loop μ-loop
 returns c = c .before .loop .inv .2 ∙ filled (c .before .before .args .a .now) 0 (c .before .loop .i) (omega arith) (omega arith)
 
-pub clear8-spec : {M : Type 1} → statement M
-clear8-spec = tie.close (tie.spec Inv-loop μ-loop loop-holds slice-write-a add-i loop-less loop-again same-length returns)
+pub clear16-spec : {M : Type 1} → statement M
+clear16-spec = tie.close (tie.spec Inv-loop μ-loop loop-holds mul-a slice-write-a add-i loop-less loop-again same-length returns)

@@ -1,18 +1,19 @@
--- `search::areas::wipe` meets its contract: each area is cleared in its first 20,000 entries, and the others are not lent on.
+-- `lent::wipe` meets its contract: each area is cleared in its first 20,000 entries, and the others are not lent on.
 use mathlib.Core.Path.{sym, ap, _∙_}
 use mathlib.Core.List.{List, _++_}
 use Prim.Native.Nat.{ℕ}
+use native.Mathlib.Omega.{arith}
 use lib.ListN.{drop, replicate}
 use lib.Seq.{length-take-le}
 use borrow.Author.Needs.{needs}
-use Rattle.search.proofs.areas.wipe.Statement.{statement}
-use Rattle.search.proofs.areas.wipe.Tie as tie
+use Rattle.lent.proofs.wipe.Statement.{statement}
+use Rattle.lent.proofs.wipe.Tie as tie
 
 slice-relend-prefix-clear8 : tie.Need-slice-relend-prefix-clear8
 slice-relend-prefix-clear8 c = search needs
 
 slice-aggregate-clear8 : tie.Need-slice-aggregate-clear8
-slice-aggregate-clear8 c = sym (length-take-le 20000 (c .before .before .before .args .marks .now) (c .before .before .before .pre .0))
+slice-aggregate-clear8 c = sym (length-take-le _ (c .before .before .before .args .marks .now) (omega (arith, c .before .before .before .pre .0)))
 
 clear8-requires : tie.Need-clear8-requires
 clear8-requires c κs = search needs
@@ -21,7 +22,7 @@ slice-relend-prefix-clear16 : tie.Need-slice-relend-prefix-clear16
 slice-relend-prefix-clear16 c = search needs
 
 slice-aggregate-clear16 : tie.Need-slice-aggregate-clear16
-slice-aggregate-clear16 c = sym (length-take-le 20000 (c .before .before .before .before .before .before .before .args .queue .now) (c .before .before .before .before .before .before .before .pre .1))
+slice-aggregate-clear16 c = sym (length-take-le _ (c .before .before .before .before .before .before .before .args .queue .now) (omega (arith, c .before .before .before .before .before .before .before .pre .1)))
 
 clear16-requires : tie.Need-clear16-requires
 clear16-requires c κs = search needs

@@ -5,7 +5,7 @@ use Prim.Native.Nat.{ℕ, _≤_}
 use native.Mathlib.Omega.{arith}
 use lib.ListN.{length, drop, replicate, length-append, length-drop}
 use lib.Seq.{drop-at}
-use Rattle.search.specs.Searched.{Wiped}
+use Rattle.lent.specs.Wiped.{Wiped}
 
 pub lent-length : (n : ℕ) (y old : List ℕ) → length y ≡ n → n ≤ length old → length (y ++ drop n old) ≡ length old
 lent-length n y old e l = omega (arith, length-append y (drop n old), length-drop n old)

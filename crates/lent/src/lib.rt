@@ -1,8 +1,8 @@
-// The areas that a search borrows are cleared.
+// The areas that a call borrows are cleared.
 ghost use mathlib.Core.Path.{_≡_};
 ghost use Prim.Native.Nat.{_≤_};
 ghost use lib.ListN.{length, replicate};
-ghost use Rattle.search.specs.Searched.{Wiped};
+ghost use Rattle.lent.specs.Wiped.{Wiped};
 use terms::Area;
 
 pub fn clear8(a: &mut [u8])
@@ -25,7 +25,7 @@ fn clear16(a: &mut [u16])
     }
 }
 
-// The first entries of both are 0 afterwards, as many as a search borrows, and the others as they were.
+// The first entries of both are 0 afterwards, as many as a call borrows, and the others as they were.
 pub fn wipe(marks: &mut [u8], queue: &mut [u16])
     requires { ⌜ (20000 ≤ length (now marks)) × (20000 ≤ length (now queue)) ⌝ }
     ensures { λ _. ⌜ Wiped 20000 (now (marks .entry)) (now (marks .exit)) × Wiped 20000 (now (queue .entry)) (now (queue .exit)) ⌝ }
