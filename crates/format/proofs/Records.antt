@@ -51,10 +51,10 @@ module _ (s : List ℕ) where
   -- TR
   transition-in : (n at : ℕ) → Stands s at (0x54 ∷ 0x52 ∷ []) → at + transitionSize n ≤ length s → eachFits weightFits 4 s (at + 2) (2 * n) ≡ sound tt → FormedTransition n (transitionIn s n at) × Stands s at (transitionBytes (transitionIn s n at))
   transition-in n at mark h f =
-      let taken : List ℕ = bytes s (at + 2) n in
-      let put : List ℕ = bytes s (at + 2 + n) n in
-      let many : length taken ≡ n = length-bytes s (at + 2) n in
-      let same : length put ≡ n = length-bytes s (at + 2 + n) n in
+      let taken : List ℕ = transitionIn s n at .taken in
+      let put : List ℕ = transitionIn s n at .put in
+      let many : length taken ≡ n = length-bytes s _ n in
+      let same : length put ≡ n = length-bytes s _ n in
       let there : Stands s (at + 2) (taken ++ put) =
       stands-append s (at + 2) (at + 2 + n) taken put (omega arith) (stands-bytes s (at + 2) n (omega arith)) (stands-bytes s (at + 2 + n) n (omega arith)) in
       let each : All IsWeight (taken ++ put) = fits-exactly s weightFits 4 (at + 2) (2 * n) (taken ++ put) (omega (arith, length-append taken put)) there .0 f in (
