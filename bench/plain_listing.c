@@ -237,11 +237,20 @@ struct steps {
     uint8_t mark[MOST_PLACES]; // the place, from 1
 };
 
+static bool known(const struct steps *steps, int by)
+{
+    for (size_t i = 0; i < steps->count; i++)
+        if (steps->by[i] == by)
+            return true;
+    return false;
+}
+
+// Each coefficient of that sign once: an equal one leads nowhere new.
 static struct steps steps_with_sign(const int16_t k[MOST_PLACES], size_t n, int sign)
 {
     struct steps steps = {.count = 0};
     for (size_t p = 0; p < n; p++)
-        if (k[p] * sign > 0) {
+        if (k[p] * sign > 0 && !known(&steps, k[p])) {
             steps.by[steps.count] = k[p];
             steps.mark[steps.count++] = (uint8_t)(p + 1);
         }
