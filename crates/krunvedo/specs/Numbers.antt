@@ -22,6 +22,8 @@ use Rattle.twins.specs.declared.Reduced.{Reduced}
 use Rattle.twins.specs.declared.Twin.{Twin}
 use Rattle.twins.specs.declared.Twin.the-variants as twin-answers
 use Rattle.walk.specs.declared.Begun.{Begun}
+use Rattle.listing.specs.declared.Listed.{Listed}
+use Rattle.listing.specs.declared.Listed.the-variants as listed
 use Rattle.krunvedo.specs.declared.numbers.Refused as refused
 use Rattle.krunvedo.specs.declared.numbers.Counted.{Counted}
 use Rattle.krunvedo.specs.declared.numbers.Weighted.{Weighted}
@@ -31,6 +33,7 @@ use Rattle.krunvedo.specs.declared.numbers.Space.{Space}
 use Rattle.krunvedo.specs.declared.numbers.Paired.{Paired}
 use Rattle.krunvedo.specs.declared.numbers.Verdict.{Verdict}
 use Rattle.krunvedo.specs.declared.numbers.Twinned.{Twinned}
+use Rattle.krunvedo.specs.declared.numbers.Written.{Written}
 
 -- A refusal has its number and its detail. Where nothing is refused both are 0, which is no refusal's number.
 abbrev pub nothing : refused.Refused
@@ -118,3 +121,8 @@ twinIs (twin-answers.Refused r) = record { refusal = refusalIs r; claim = 0 }
 -- the marking that a walk begins at
 abbrev pub begunIs : Begun → Tokens
 begunIs b = record { refusal = checkIs (b .answer); tokens = b .marking .tokens }
+
+-- a text that was written: its length, or the refusal
+abbrev pub listedIs : Listed → Written
+listedIs (listed.Written n) = record { number = 0; value = n }
+listedIs (listed.Refused r) = record { number = r .number; value = detailOf (r .detail) }
