@@ -27,8 +27,8 @@ use Rattle.listing.specs.Listed.{Lists, IsListed, roomCheck, listingCheck}
 use Rattle.listing.specs.declared.Listed.{Listed}
 use Rattle.walk.specs.Walk.{first, lowest, noSuchTransition, isShort, lowestShort, isOver, lowestOver, stepOf}
 use Rattle.walk.specs.declared.Marking.{Marking}
-use Rattle.krunvedo.specs.declared.numbers.Written.{Written}
-use Rattle.krunvedo.specs.Numbers.{checkIs, listedIs}
+use Rattle.numbers.specs.declared.Written.{Written}
+use Rattle.numbers.specs.Numbers.{checkIs, listedIs}
 use Rattle.krunvedo.specs.Exports.{IsListingText}
 
 data Numbered {A : Type 0} : Read A → Type 0 where

@@ -8,11 +8,11 @@ use Rattle.format.specs.Contents.{Contents}
 use Rattle.pairs.proofs.Tells as pairs
 use Rattle.verdicts.proofs.Tells as verdicts
 use Rattle.twins.proofs.OneAnswer.{one-reduced, one-twin}
-use Rattle.krunvedo.specs.declared.numbers.Space.{Space}
-use Rattle.krunvedo.specs.declared.numbers.Paired.{Paired}
-use Rattle.krunvedo.specs.declared.numbers.Verdict.{Verdict}
-use Rattle.krunvedo.specs.declared.numbers.Twinned.{Twinned}
-use Rattle.krunvedo.specs.Numbers.{pairNumber, pairRefusal, pairIs, verdictNumber, verdictRefusal, verdictTransition, verdictIs, reducedIs, twinIs}
+use Rattle.numbers.specs.declared.Space.{Space}
+use Rattle.numbers.specs.declared.Paired.{Paired}
+use Rattle.numbers.specs.declared.Verdict.{Verdict}
+use Rattle.numbers.specs.declared.Twinned.{Twinned}
+use Rattle.numbers.specs.Numbers.{pairNumber, pairRefusal, pairIs, verdictNumber, verdictRefusal, verdictTransition, verdictIs, reducedIs, twinIs}
 use Rattle.krunvedo.specs.Exports.{IsPaired, IsVerdict, IsReducedSpace, IsTwinned}
 
 -- the same but for the marking of a broken pair, whose number is 2

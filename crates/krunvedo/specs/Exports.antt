@@ -23,13 +23,13 @@ use Rattle.listing.specs.Lines.{refusedLine}
 use Rattle.listing.specs.Listed.{IsListed}
 use Rattle.listing.specs.declared.Listed.{Listed}
 use Rattle.listing.specs.declared.Listed.the-variants as listed
-use Rattle.krunvedo.specs.declared.numbers.Space.{Space}
-use Rattle.krunvedo.specs.declared.numbers.Record.{Record}
-use Rattle.krunvedo.specs.declared.numbers.Paired.{Paired}
-use Rattle.krunvedo.specs.declared.numbers.Verdict.{Verdict}
-use Rattle.krunvedo.specs.declared.numbers.Twinned.{Twinned}
-use Rattle.krunvedo.specs.declared.numbers.Written.{Written}
-use Rattle.krunvedo.specs.Numbers.{checkIs, pairIs, verdictIs, reducedIs, twinIs, listedIs}
+use Rattle.numbers.specs.declared.Space.{Space}
+use Rattle.numbers.specs.declared.Record.{Record}
+use Rattle.numbers.specs.declared.Paired.{Paired}
+use Rattle.numbers.specs.declared.Verdict.{Verdict}
+use Rattle.numbers.specs.declared.Twinned.{Twinned}
+use Rattle.numbers.specs.declared.Written.{Written}
+use Rattle.numbers.specs.Numbers.{checkIs, pairIs, verdictIs, reducedIs, twinIs, listedIs}
 
 -- where the record of claim i starts, and how many bytes it has
 abbrev pub recordOf : Read Contents → Claim → Record

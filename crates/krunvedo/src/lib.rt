@@ -1,5 +1,5 @@
 // The library for programs in other languages: every call over numbers and slices. `include/krunvedo.h` declares it for C.
-// Each export makes one call and puts its answer into numbers, as `specs/Numbers.antt` sets them out.
+// Each export makes one call and puts its answer into numbers, as `numbers/specs/Numbers.antt` sets them out.
 ghost use mathlib.Core.Path.{_≡_};
 ghost use lib.ListN.{length};
 ghost use Rattle.format.specs.Reading.{reading};
@@ -9,10 +9,9 @@ ghost use Rattle.pairs.specs.Pairs.{pairCheck, areaAfter};
 ghost use Rattle.verdicts.specs.Judged.{verdictCheck};
 ghost use Rattle.listing.specs.Listed.{listingCheck};
 ghost use Rattle.walk.specs.Walk.{beginOf, stepOf};
-ghost use Rattle.krunvedo.specs.Numbers.{checkIs, readingIs, weightsIs, startIs, targetIs, halfSpaceIs, begunIs};
+ghost use Rattle.numbers.specs.Numbers.{checkIs, readingIs, weightsIs, startIs, targetIs, halfSpaceIs, begunIs};
 ghost use Rattle.krunvedo.specs.Exports.{recordOf, IsPaired, IsVerdict, IsReducedSpace, IsTwinned, IsListingText, refusalTold, refusalAfter};
 
-pub mod numbers; // numbers.rt: answers as C takes them
 mod records; // records.rt: where a claim's record stands
 
 use numbers::Counted;

@@ -13,7 +13,7 @@ use Rattle.listing.specs.Lines.{refusedLine}
 use Rattle.listing.specs.Listed.{RefusalWritten, IsRefusalText}
 use Rattle.listing.specs.declared.Listed.{Listed}
 use Rattle.listing.specs.declared.Listed.the-variants as listed
-use Rattle.krunvedo.specs.Numbers.{listedIs}
+use Rattle.numbers.specs.Numbers.{listedIs}
 use borrow.Author.Needs.{needs}
 use Rattle.krunvedo.proofs.krunvedo_refusal_text.Statement.{statement}
 use Rattle.krunvedo.proofs.krunvedo_refusal_text.Tie as tie

@@ -1,6 +1,6 @@
 // Answers as C takes them: numbers and rows of numbers, laid out as C lays them out. An enum's case is a number here.
 ghost use mathlib.Core.Path.{_≡_};
-ghost use Rattle.krunvedo.specs.Numbers.{refusalIs, checkIs, readingIs, kindIs, twinIs, pairNumber, pairRefusal, listedIs, verdictNumber, verdictRefusal, verdictTransition};
+ghost use Rattle.numbers.specs.Numbers.{refusalIs, checkIs, readingIs, kindIs, twinIs, pairNumber, pairRefusal, listedIs, verdictNumber, verdictRefusal, verdictTransition};
 use listing::Listed;
 use reader::Check;
 use reader::Reading;

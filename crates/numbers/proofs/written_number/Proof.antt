@@ -1,11 +1,11 @@
 -- `written_number` meets its contract: each arm is a case of the definition.
 use mathlib.Core.Path.{_∙_, sym, ap}
 use Prim.Native.Nat.{ℕ}
-use Rattle.krunvedo.specs.declared.numbers.Written.{Written}
-use Rattle.krunvedo.specs.Numbers.{listedIs}
+use Rattle.numbers.specs.declared.Written.{Written}
+use Rattle.numbers.specs.Numbers.{listedIs}
 use borrow.Author.Needs.{needs}
-use Rattle.krunvedo.proofs.numbers.written_number.Statement.{statement}
-use Rattle.krunvedo.proofs.numbers.written_number.Tie as tie
+use Rattle.numbers.proofs.written_number.Statement.{statement}
+use Rattle.numbers.proofs.written_number.Tie as tie
 
 enum-known-l : tie.Need-enum-known-l
 enum-known-l c = search needs
