@@ -221,6 +221,7 @@ pub extern "C" fn krunvedo_step(tokens: &mut [u16; Place::MOST], sheet: &[u8], t
     Refused::of_check(answer)
 }
 
+// Before the slices stand 0, 2, 4 and 6 words. A hidden pointer to a longer answer would make it 5 before the queue.
 #[no_mangle]
 pub extern "C" fn krunvedo_listing(
     sheet: &[u8],

@@ -84,7 +84,7 @@ pub struct Twinned {
     pub claim: usize,
 }
 
-// Number 0 and the text's length, or a refusal's number and its detail: two words, so that no slice of the call has five before it.
+// Number 0 and the text's length, or a refusal's number and its detail. Two words, so that an export needs no hidden pointer to it.
 #[repr(C)]
 pub struct Written {
     pub number: u8,
