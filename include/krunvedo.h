@@ -5,7 +5,7 @@
  * be asked for. All that a caller owes is valid memory, the same that a reference of Rust's is:
  *
  *  - A slice's pointer is not null, even where its length is 0, is aligned for its entries, and has that many of them behind it.
- *  - What is lent to be written (`marks`, `queue`, `tokens`) overlaps nothing else that the same call is given, and nobody else
+ *  - What is lent to be written (`marks`, `queue`, `text`, `tokens`) overlaps nothing else that the same call is given, and nobody else
  *    touches it during the call.
  *
  * No call keeps a pointer, allocates memory or holds state: calls may run at the same time on memory of their own.
@@ -24,6 +24,7 @@ extern "C" {
 
 #define KRUNVEDO_PLACES 16 /* numbers in a row */
 #define KRUNVEDO_AREA 20000 /* entries that each work area must have */
+#define KRUNVEDO_TEXT 4096 /* bytes that an area for a text must have */
 
 /* Bytes that are only read. */
 typedef struct {
@@ -109,9 +110,9 @@ krunvedo_refused krunvedo_claim_check(krunvedo_bytes sheet, size_t i);
 krunvedo_record krunvedo_claim_record(krunvedo_bytes sheet, size_t i);
 
 /* Does transition t keep claim i? Start and target play no part. The marking is a bad one where t breaks it. */
-#define KRUNVEDO_REFUSED 0
-#define KRUNVEDO_KEPT 1
-#define KRUNVEDO_BROKEN 2
+#define KRUNVEDO_PAIR_REFUSED 0
+#define KRUNVEDO_PAIR_KEPT 1
+#define KRUNVEDO_PAIR_BROKEN 2
 
 typedef struct {
   krunvedo_refused refusal;
@@ -121,12 +122,13 @@ typedef struct {
 
 krunvedo_paired krunvedo_pair(krunvedo_bytes sheet, size_t i, krunvedo_marks marks, krunvedo_queue queue, size_t t);
 
-/* The verdict on claim i: KRUNVEDO_REFUSED, or the first of these that holds. A broken claim has the lowest transition that breaks
+/* The verdict on claim i: refused, or the first of the four others that holds. A broken claim has the lowest transition that breaks
  * it, and a bad marking. */
-#define KRUNVEDO_START_OUTSIDE 1
-#define KRUNVEDO_TARGET_INSIDE 2
+#define KRUNVEDO_CLAIM_REFUSED 0
+#define KRUNVEDO_CLAIM_START_OUTSIDE 1
+#define KRUNVEDO_CLAIM_TARGET_INSIDE 2
 #define KRUNVEDO_CLAIM_BROKEN 3
-#define KRUNVEDO_PROOF 4
+#define KRUNVEDO_CLAIM_PROOF 4
 
 typedef struct {
   krunvedo_refused refusal;
@@ -144,6 +146,25 @@ typedef struct {
 } krunvedo_twinned;
 
 krunvedo_twinned krunvedo_twin(krunvedo_bytes sheet, size_t i);
+
+/* An area that a text is written into, from its first byte. The bytes behind the text are untouched, and none is put there to end it.
+ * A refusal changes nothing. */
+typedef struct {
+  uint8_t *data;
+  size_t length;
+} krunvedo_text;
+
+/* Number 0, and value is the text's length; or a refusal's number, and value is its detail. */
+typedef struct {
+  uint8_t number;
+  size_t value;
+} krunvedo_written;
+
+/* The listing of a sheet. After the sheet's own refusals come 13 for a work area that is too short, and 19 for the text's. */
+krunvedo_written krunvedo_listing(krunvedo_bytes sheet, krunvedo_marks marks, krunvedo_queue queue, krunvedo_text text);
+
+/* The line that says in words that a call was refused with this number and this detail. Only 19 is refused. */
+krunvedo_written krunvedo_refusal_text(uint8_t number, size_t detail, krunvedo_text text);
 
 /* The marking that a walk begins at, and a step of a walk by transition t. A step moves the sixteen tokens on; it neither reads nor
  * alters those beyond the sheet's places, and a refused one changes none. tokens points to sixteen numbers, aligned as uint16_t, that

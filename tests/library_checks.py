@@ -19,6 +19,7 @@ from tempfile import TemporaryDirectory
 from checks import Checks, run_checks
 from named_cases import FIRST
 from programs import ROOT, TIME_LIMIT, output_of
+from verdicts_by_hand import LISTING_OF_01
 
 MACHINE = "x86_64"
 ARCHIVES = ROOT / "target" / "staticlib"
@@ -62,7 +63,7 @@ def built(checks: Checks, line: list) -> bool:
 
 def failed_tests(output: str) -> str:
     """Nothing where Rust's own harness says that all tests passed, else all that it printed."""
-    return "" if "test result: ok. 5 passed; 0 failed" in output else output
+    return "" if "test result: ok. 7 passed; 0 failed" in output else output
 
 
 def expected_lines() -> Iterator[str]:
@@ -75,6 +76,7 @@ def expected_lines() -> Iterator[str]:
     yield f"weights 2: refusal 12 at 2, taken {row()}, put {row()}"
     yield from claim_lines()
     yield from judged_lines()
+    yield from text_lines()
     yield f"begin 0: refusal 0 at 0, tokens {row(2)}"
     yield f"step 1: refusal 0 at 0, tokens {row(1, 1, last=7)}"
     yield f"step 1: refusal 0 at 0, tokens {row(0, 2, last=7)}"
@@ -104,6 +106,18 @@ def judged_lines() -> Iterator[str]:
         yield f"verdict {i}: {refused_claim(i)}, answer {verdicts[i]}, transition {int(i == 4)}, tokens {bad}"
     yield f"pair 4: refusal 13 at 0, answer 0, tokens {row()}"
     yield f"verdict 4: refusal 13 at 0, answer 0, transition 0, tokens {row()}"
+
+
+def text_lines() -> Iterator[str]:
+    """Behind each text stands the sharp that the area was filled with."""
+    yield f"listing: number 0, value {len(LISTING_OF_01)}\n{LISTING_OF_01}#"
+    yield "listing: number 19, value 4096\n#"
+    yield "listing: number 13, value 0\n#"
+    yield "listing: number 1, value 47\n#"
+    for number, detail in [(1, 47), (2**8 - 1, 2**64 - 1)]:
+        line = f"refused {number} at {detail}\n"
+        yield f"refusal_text: number 0, value {len(line)}\n{line}#"
+    yield "refusal_text: number 19, value 4096\n#"
 
 
 def refused_claim(i: int) -> str:

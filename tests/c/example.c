@@ -2,11 +2,13 @@
 #include "krunvedo.h"
 
 #include <stdio.h>
+#include <string.h>
 
 #define MOST 4096 /* no sheet is longer */
 
 static uint8_t marks[KRUNVEDO_AREA];
 static uint16_t queue[KRUNVEDO_AREA];
+static uint8_t text[KRUNVEDO_TEXT];
 
 /* A line opens with the call, what it was asked for and its refusal. */
 static void open_line(const char *call, size_t asked, krunvedo_refused refusal) {
@@ -87,6 +89,37 @@ static void show_judged(krunvedo_bytes sheet, size_t i, size_t area) {
   end_line();
 }
 
+/* Empties the text's area: sharps fill it. */
+static krunvedo_text empty_text(size_t length) {
+  memset(text, '#', sizeof text);
+  return (krunvedo_text){text, length};
+}
+
+/* The text if there is one, and the byte behind it: a sharp, since that stays. */
+static void show_written(const char *call, krunvedo_written written) {
+  size_t length = written.number == 0 ? written.value : 0;
+  printf("%s: number %u, value %zu\n", call, written.number, written.value);
+  fwrite(text, 1, length + 1, stdout);
+  end_line();
+}
+
+static void show_listing(krunvedo_bytes sheet, size_t area, size_t room) {
+  krunvedo_marks lent_marks = {marks, area};
+  krunvedo_queue lent_queue = {queue, area};
+  show_written("listing", krunvedo_listing(sheet, lent_marks, lent_queue, empty_text(room)));
+}
+
+static void show_texts(krunvedo_bytes sheet) {
+  krunvedo_bytes cut = {sheet.data, sheet.length - 1};
+  show_listing(sheet, KRUNVEDO_AREA, KRUNVEDO_TEXT);
+  show_listing(sheet, KRUNVEDO_AREA, KRUNVEDO_TEXT - 1);
+  show_listing(sheet, KRUNVEDO_AREA - 1, KRUNVEDO_TEXT - 1);
+  show_listing(cut, KRUNVEDO_AREA - 1, KRUNVEDO_TEXT - 1);
+  show_written("refusal_text", krunvedo_refusal_text(1, 47, empty_text(KRUNVEDO_TEXT)));
+  show_written("refusal_text", krunvedo_refusal_text(UINT8_MAX, SIZE_MAX, empty_text(KRUNVEDO_TEXT)));
+  show_written("refusal_text", krunvedo_refusal_text(1, 47, empty_text(KRUNVEDO_TEXT - 1)));
+}
+
 static void show_step(uint16_t marking[KRUNVEDO_PLACES], krunvedo_bytes sheet, size_t t) {
   krunvedo_refused refusal = krunvedo_step(marking, sheet, t);
   open_line("step", t, refusal);
@@ -112,6 +145,7 @@ int main(void) {
   for (size_t i = 0; i <= 6; i++) show_claim(sheet, i);
   for (size_t i = 0; i <= 6; i++) show_judged(sheet, i, KRUNVEDO_AREA);
   show_judged(sheet, 4, KRUNVEDO_AREA - 1);
+  show_texts(sheet);
   show_walk(sheet);
   return 0;
 }

@@ -2,6 +2,7 @@
 
 const PLACES: usize = 16;
 const AREA: usize = 20_000;
+const TEXT: usize = 4096;
 
 /// Document 01's own sheet: claims at 23, 29, 35, 41 and 47.
 const FIRST: [u8; 53] = *b"NP\x02\x01TR\x01\0\0\x01MK\x02\0\0\0TG\0\0\0\x01\0\
@@ -98,6 +99,13 @@ struct Twinned {
     claim: usize,
 }
 
+#[repr(C)]
+#[derive(Debug, PartialEq)]
+struct Written {
+    number: u8,
+    value: usize,
+}
+
 #[link(name = "krunvedo", kind = "static")]
 extern "C" {
     fn krunvedo_read(sheet: Bytes) -> Counted;
@@ -111,6 +119,8 @@ extern "C" {
     fn krunvedo_pair(sheet: Bytes, i: usize, marks: Lent<u8>, queue: Lent<u16>, t: usize) -> Paired;
     fn krunvedo_verdict(sheet: Bytes, i: usize, marks: Lent<u8>, queue: Lent<u16>) -> Judged;
     fn krunvedo_twin(sheet: Bytes, i: usize) -> Twinned;
+    fn krunvedo_listing(sheet: Bytes, marks: Lent<u8>, queue: Lent<u16>, text: Lent<u8>) -> Written;
+    fn krunvedo_refusal_text(number: u8, detail: usize, text: Lent<u8>) -> Written;
     fn krunvedo_begin(sheet: Bytes) -> Tokens;
     fn krunvedo_step(tokens: *mut u16, sheet: Bytes, t: usize) -> Refused;
 }
@@ -139,6 +149,25 @@ fn pair(sheet: &[u8], i: usize, t: usize, marks: &mut [u8], queue: &mut [u16]) -
 
 fn verdict(sheet: &[u8], i: usize, marks: &mut [u8], queue: &mut [u16]) -> Judged {
     unsafe { krunvedo_verdict(bytes(sheet), i, lent(marks), lent(queue)) }
+}
+
+fn listing(sheet: &[u8], marks: &mut [u8], queue: &mut [u16], text: &mut [u8]) -> Written {
+    unsafe { krunvedo_listing(bytes(sheet), lent(marks), lent(queue), lent(text)) }
+}
+
+fn refusal_text(number: u8, detail: usize, text: &mut [u8]) -> Written {
+    unsafe { krunvedo_refusal_text(number, detail, lent(text)) }
+}
+
+fn written(number: u8, value: usize) -> Written {
+    Written { number, value }
+}
+
+/// An area of sevens with the text at its start.
+fn holding(text: &[u8]) -> [u8; TEXT] {
+    let mut area = [7; TEXT];
+    area[..text.len()].copy_from_slice(text);
+    area
 }
 
 fn step(tokens: &mut [u16; PLACES], sheet: &[u8], t: usize) -> Refused {
@@ -198,6 +227,27 @@ fn a_refusal_leaves_the_areas() {
     assert_eq!(verdict(&FIRST, 4, &mut marks, &mut queue).refusal, refused(13, 0));
     assert_eq!(pair(&FIRST, 4, 2, &mut marks, &mut queue).refusal, refused(12, 2));
     assert!(marks == [7; AREA] && queue == [7; AREA - 1]);
+}
+
+#[test]
+fn a_listing() {
+    let lines = b"places 2 transitions 1 claims 5\nclaim 1 proof\nclaim 2 start-outside\nclaim 3 target-inside\n\
+        claim 4 broken 1 1 0\nclaim 5 proof twin 1\n";
+    let (mut marks, mut queue, mut text) = ([7u8; AREA], [7u16; AREA], [7u8; TEXT]);
+    assert_eq!(listing(&FIRST, &mut marks, &mut queue, &mut text), written(0, lines.len()));
+    assert!(text == holding(lines) && marks == [0; AREA] && queue == [0; AREA]);
+    assert_eq!(refusal_text(1, 47, &mut text), written(0, 16));
+    assert!(text[..16] == *b"refused 1 at 47\n" && text[16..lines.len()] == lines[16..]);
+}
+
+#[test]
+fn a_refusal_leaves_the_text() {
+    let (mut marks, mut queue, mut text) = ([7u8; AREA], [7u16; AREA], [7u8; TEXT]);
+    assert_eq!(listing(&FIRST[..52], &mut marks, &mut queue, &mut text), written(1, 47));
+    assert_eq!(listing(&FIRST, &mut marks, &mut queue[1..], &mut text), written(13, 0));
+    assert_eq!(listing(&FIRST, &mut marks, &mut queue, &mut text[1..]), written(19, TEXT));
+    assert_eq!(refusal_text(1, 47, &mut text[1..]), written(19, TEXT));
+    assert!(text == [7; TEXT] && marks == [7; AREA] && queue == [7; AREA]);
 }
 
 #[test]

@@ -1,5 +1,5 @@
 -- No refusal has the number 0, so the number 0 says that nothing is refused: each test of the reading gives its refusal a number, and so do the calls.
-use mathlib.Core.Path.{_≡_, refl, sym, subst}
+use mathlib.Core.Path.{_≡_, refl, sym, ap, _∙_, subst}
 use mathlib.Core.Bool.{Bool, true, false}
 use mathlib.Core.List.{List, [], _∷_}
 use Prim.Native.Nat.{ℕ, zero, suc, _+_, _*_, _≤_}
@@ -7,8 +7,8 @@ use native.Mathlib.Omega.{arith}
 use lib.Dec.{leb, ltb, eqb}
 use lib.ListN.{length, take}
 use Rattle.signed.specs.Twos.{twos8}
-use Rattle.terms.specs.Limits.{among, areasFit, placesFit, transitionsFit, weightFits, coefficientFits, constantFits, kindFits, mostClaims}
-use Rattle.terms.specs.Refusals.{noClaim, notAClaim, notATransition, smallArea, notEnabled, tooMany}
+use Rattle.terms.specs.Limits.{among, areasFit, textSize, placesFit, transitionsFit, weightFits, coefficientFits, constantFits, kindFits, mostClaims}
+use Rattle.terms.specs.Refusals.{noClaim, notAClaim, notATransition, smallArea, smallText, notEnabled, tooMany}
 use Rattle.terms.specs.declared.Claim.{Claim}
 use Rattle.terms.specs.declared.Place.{Place}
 use Rattle.terms.specs.declared.Refusal.{Refusal}
@@ -23,9 +23,13 @@ use Rattle.reader.specs.declared.Check.the-variants.{Fine, Refused}
 use Rattle.sheet.specs.Held.{claimCheck, transitionCheck}
 use Rattle.pairs.specs.Pairs.{pairCheck}
 use Rattle.verdicts.specs.Judged.{verdictCheck}
+use Rattle.listing.specs.Listed.{Lists, IsListed, roomCheck, listingCheck}
+use Rattle.listing.specs.declared.Listed.{Listed}
 use Rattle.walk.specs.Walk.{first, lowest, noSuchTransition, isShort, lowestShort, isOver, lowestOver, stepOf}
 use Rattle.walk.specs.declared.Marking.{Marking}
-use Rattle.krunvedo.specs.Numbers.{checkIs}
+use Rattle.numbers.specs.declared.Written.{Written}
+use Rattle.numbers.specs.Numbers.{checkIs, listedIs}
+use Rattle.krunvedo.specs.Exports.{IsListingText}
 
 data Numbered {A : Type 0} : Read A → Type 0 where
   fine : (a : A) → Numbered (sound a)
@@ -144,6 +148,15 @@ zero-fine : (c : Check) → HasNumber c → checkIs c .number ≡ 0 → c ≡ Fi
 zero-fine Fine h e = refl
 zero-fine (Refused r) h e = absurd (omega (arith, h, e))
 
+-- a listing's number is that of its check
+number-in : (c : Check) (x : Contents) (old new : List ℕ) (l : Listed) → Lists c x old new l → checkIs c .number ≡ listedIs l .number
+number-in Fine x old new l (text, listing, e, after) = ap (λ (k : Listed). listedIs k .number) (sym e)
+number-in (Refused r) x old new l (e, after) = ap (λ (k : Listed). listedIs k .number) (sym e)
+
+listed-number : (y : Read Contents) (m q : ℕ) (old new : List ℕ) (l : Listed) → IsListed y m q old new l → checkIs (listingCheck y m q (length old)) .number ≡ listedIs l .number
+listed-number (sound x) m q old new l e = number-in (roomCheck m q (length old)) x old new l e
+listed-number (refused r) m q old new l (e, after) = ap (λ (k : Listed). listedIs k .number) (sym e)
+
 -- The number 0 says that nothing is refused, of each check that the exports pass on.
 module _ (s : List ℕ) where
   pub read-zero : checkIs (checked (reading s)) .number ≡ 0 → checked (reading s) ≡ Fine
@@ -189,3 +202,11 @@ module _ (s : List ℕ) where
       (first-number short (over ∷ []) (lowest-number (isShort (fired .taken) tokens) notEnabled (λ p. omega arith) 0 (net .places))
       (first-number over [] (lowest-number (isOver (nets.fire fired tokens)) tooMany (λ p. omega arith) 0 (net .places)) tt)) in
       zero-fine (stepOf (reading s) t m .answer) (passed-on (reading s) (sheet-numbered s) next all (λ y. stepOf y t m .answer) (λ x. refl) (λ r. refl))
+
+  pub listing-zero : (m q : ℕ) (old new : List ℕ) (r : Written) → IsListingText (reading s) m q old new r → r .number ≡ 0 → listingCheck (reading s) m q (length old) ≡ Fine
+  listing-zero m q old new r (l, is, f) e =
+      let room = length old in
+      let text : HasNumber (choose (leb textSize room) Fine (Refused smallText)) = either (leb textSize room) Fine (Refused smallText) tt (omega arith) in
+      let all : HasNumber (roomCheck m q room) = either (areasFit m q) (choose (leb textSize room) Fine (Refused smallText)) (Refused smallArea) text (omega arith) in
+      let number = listed-number (reading s) m q old new l is ∙ sym (ap (λ (w : Written). w .number) f) ∙ e in
+      zero-fine (listingCheck (reading s) m q room) (passed-on (reading s) (sheet-numbered s) (λ x. roomCheck m q room) (λ x. all) (λ y. listingCheck y m q room) (λ x. refl) (λ r. refl)) number

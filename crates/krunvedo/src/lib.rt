@@ -1,5 +1,5 @@
 // The library for programs in other languages: every call over numbers and slices. `include/krunvedo.h` declares it for C.
-// Each export makes one call and puts its answer into numbers, as `specs/Numbers.antt` sets them out.
+// Each export makes one call and puts its answer into numbers, as `numbers/specs/Numbers.antt` sets them out.
 ghost use mathlib.Core.Path.{_≡_};
 ghost use lib.ListN.{length};
 ghost use Rattle.format.specs.Reading.{reading};
@@ -7,11 +7,11 @@ ghost use Rattle.reader.specs.Answers.{answerOf};
 ghost use Rattle.sheet.specs.Held.{weightsOf, startOf, targetOf, halfSpaceOf, claimCheck};
 ghost use Rattle.pairs.specs.Pairs.{pairCheck, areaAfter};
 ghost use Rattle.verdicts.specs.Judged.{verdictCheck};
+ghost use Rattle.listing.specs.Listed.{listingCheck};
 ghost use Rattle.walk.specs.Walk.{beginOf, stepOf};
-ghost use Rattle.krunvedo.specs.Numbers.{checkIs, readingIs, weightsIs, startIs, targetIs, halfSpaceIs, begunIs};
-ghost use Rattle.krunvedo.specs.Exports.{recordOf, IsPaired, IsVerdict, IsReducedSpace, IsTwinned};
+ghost use Rattle.numbers.specs.Numbers.{checkIs, readingIs, weightsIs, startIs, targetIs, halfSpaceIs, begunIs};
+ghost use Rattle.krunvedo.specs.Exports.{recordOf, IsPaired, IsVerdict, IsReducedSpace, IsTwinned, IsListingText, refusalTold, refusalAfter};
 
-pub mod numbers; // numbers.rt: answers as C takes them
 mod records; // records.rt: where a claim's record stands
 
 use numbers::Counted;
@@ -24,15 +24,18 @@ use numbers::Tokens;
 use numbers::Twinned;
 use numbers::Verdict;
 use numbers::Weighted;
+use numbers::Written;
 use numbers::counts_of;
 use numbers::kind_of;
 use numbers::pair_number;
 use numbers::twin_number;
 use numbers::verdict_number;
 use numbers::verdict_transition;
+use numbers::written_number;
 use records::record_from;
 use terms::Claim;
 use terms::Place;
+use terms::Refusal;
 use terms::Transition;
 use walk::Marking;
 
@@ -216,4 +219,30 @@ pub extern "C" fn krunvedo_step(tokens: &mut [u16; Place::MOST], sheet: &[u8], t
     *tokens = next;
     let answer = s.answer;
     Refused::of_check(answer)
+}
+
+// Before the slices stand 0, 2, 4 and 6 words. A hidden pointer to a longer answer would make it 5 before the queue.
+#[no_mangle]
+pub extern "C" fn krunvedo_listing(
+    sheet: &[u8],
+    marks: &mut [u8],
+    queue: &mut [u16],
+    text: &mut [u8],
+) -> Written
+    ensures { λ r. ⌜ IsListingText (reading (now (sheet .entry))) (length (now (marks .entry))) (length (now (queue .entry))) (now (text .entry)) (now (text .exit)) r ⌝ }
+    ensures { λ _. ⌜ now (marks .exit) ≡ areaAfter (listingCheck (reading (now (sheet .entry))) (length (now (marks .entry))) (length (now (queue .entry))) (length (now (text .entry)))) (now (marks .entry)) ⌝ }
+    ensures { λ _. ⌜ now (queue .exit) ≡ areaAfter (listingCheck (reading (now (sheet .entry))) (length (now (marks .entry))) (length (now (queue .entry))) (length (now (text .entry)))) (now (queue .entry)) ⌝ }
+{
+    let l = listing::listing_of(sheet, marks, queue, text);
+    written_number(l)
+}
+
+// The line has the two numbers alone, so what the detail counts plays no part: it is taken for a byte's place.
+#[no_mangle]
+pub extern "C" fn krunvedo_refusal_text(number: u8, detail: usize, text: &mut [u8]) -> Written
+    ensures { λ r. ⌜ r ≡ refusalTold number detail (now (text .entry)) ⌝ }
+    ensures { λ _. ⌜ now (text .exit) ≡ refusalAfter number detail (now (text .entry)) ⌝ }
+{
+    let l = listing::refusal_text(Refusal::at_byte(number, detail), text);
+    written_number(l)
 }

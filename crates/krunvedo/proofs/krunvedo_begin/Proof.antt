@@ -1,8 +1,8 @@
 -- `krunvedo_begin` meets its contract: the refusal as numbers, and the tokens as they are.
 use mathlib.Core.Path.{_∙_, ap}
-use Rattle.krunvedo.specs.declared.numbers.Refused as refused
-use Rattle.krunvedo.specs.declared.numbers.Tokens.{Tokens}
-use Rattle.krunvedo.specs.Numbers.{begunIs}
+use Rattle.numbers.specs.declared.Refused as refused
+use Rattle.numbers.specs.declared.Tokens.{Tokens}
+use Rattle.numbers.specs.Numbers.{begunIs}
 use borrow.Author.Needs.{needs}
 use Rattle.krunvedo.proofs.krunvedo_begin.Statement.{statement}
 use Rattle.krunvedo.proofs.krunvedo_begin.Tie as tie

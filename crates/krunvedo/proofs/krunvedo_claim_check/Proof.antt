@@ -1,6 +1,6 @@
 -- `krunvedo_claim_check` meets its contract: it passes the check on, as numbers.
 use mathlib.Core.Path.{_∙_, ap}
-use Rattle.krunvedo.specs.Numbers.{checkIs}
+use Rattle.numbers.specs.Numbers.{checkIs}
 use borrow.Author.Needs.{needs}
 use Rattle.krunvedo.proofs.krunvedo_claim_check.Statement.{statement}
 use Rattle.krunvedo.proofs.krunvedo_claim_check.Tie as tie

@@ -5,9 +5,9 @@ use lib.ListN.{length}
 use Rattle.format.specs.Reading.{reading}
 use Rattle.sheet.specs.Held.{claimCheck}
 use Rattle.sheet.specs.Part.{recordAt}
-use Rattle.krunvedo.specs.declared.numbers.Refused as refused
-use Rattle.krunvedo.specs.declared.numbers.Record.{Record}
-use Rattle.krunvedo.specs.Numbers.{checkIs}
+use Rattle.numbers.specs.declared.Refused as refused
+use Rattle.numbers.specs.declared.Record.{Record}
+use Rattle.numbers.specs.Numbers.{checkIs}
 use borrow.Author.Needs.{needs}
 use Rattle.krunvedo.proofs.krunvedo_claim_record.Statement.{statement}
 use Rattle.krunvedo.proofs.krunvedo_claim_record.Tie as tie

@@ -4,9 +4,9 @@ use lib.IntN.{ℤ}
 use mir.Syntax.{w16}
 use mir.Val.{SFits}
 use mir.Facts.{toZ-ofZ}
-use Rattle.krunvedo.specs.declared.numbers.Refused as refused
-use Rattle.krunvedo.specs.declared.numbers.Space.{Space}
-use Rattle.krunvedo.specs.Numbers.{halfSpaceIs}
+use Rattle.numbers.specs.declared.Refused as refused
+use Rattle.numbers.specs.declared.Space.{Space}
+use Rattle.numbers.specs.Numbers.{halfSpaceIs}
 use borrow.Author.Needs.{needs}
 use Rattle.krunvedo.proofs.krunvedo_half_space.Statement.{statement}
 use Rattle.krunvedo.proofs.krunvedo_half_space.Tie as tie

@@ -1,8 +1,8 @@
 -- `krunvedo_pair` meets its contract: the answer that the call gives, as numbers, and the areas as it leaves them.
 use mathlib.Core.Path.{ap₂}
 use Prim.Native.Nat.{ℕ}
-use Rattle.krunvedo.specs.declared.numbers.Refused as refused
-use Rattle.krunvedo.specs.declared.numbers.Paired.{Paired}
+use Rattle.numbers.specs.declared.Refused as refused
+use Rattle.numbers.specs.declared.Paired.{Paired}
 use borrow.Author.Needs.{needs}
 use Rattle.krunvedo.proofs.krunvedo_pair.Statement.{statement}
 use Rattle.krunvedo.proofs.krunvedo_pair.Tie as tie

@@ -1,6 +1,6 @@
 -- `krunvedo_read` meets its contract: it passes the reader's answer on, as numbers.
 use mathlib.Core.Path.{_∙_, ap}
-use Rattle.krunvedo.specs.Numbers.{readingIs}
+use Rattle.numbers.specs.Numbers.{readingIs}
 use borrow.Author.Needs.{needs}
 use Rattle.krunvedo.proofs.krunvedo_read.Statement.{statement}
 use Rattle.krunvedo.proofs.krunvedo_read.Tie as tie

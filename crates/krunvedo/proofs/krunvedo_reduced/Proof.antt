@@ -4,8 +4,8 @@ use lib.IntN.{ℤ}
 use mir.Syntax.{w16}
 use mir.Val.{SFits}
 use mir.Facts.{toZ-ofZ}
-use Rattle.krunvedo.specs.declared.numbers.Refused as refused
-use Rattle.krunvedo.specs.declared.numbers.Space.{Space}
+use Rattle.numbers.specs.declared.Refused as refused
+use Rattle.numbers.specs.declared.Space.{Space}
 use borrow.Author.Needs.{needs}
 use Rattle.krunvedo.proofs.krunvedo_reduced.Statement.{statement}
 use Rattle.krunvedo.proofs.krunvedo_reduced.Tie as tie

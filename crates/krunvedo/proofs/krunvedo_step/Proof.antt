@@ -1,7 +1,7 @@
 -- `krunvedo_step` meets its contract: the answer of the step by value as numbers, and its marking stored.
 use mathlib.Core.Path.{_∙_, ap}
 use Rattle.walk.specs.declared.Moved.{Moved}
-use Rattle.krunvedo.specs.Numbers.{checkIs}
+use Rattle.numbers.specs.Numbers.{checkIs}
 use borrow.Author.Needs.{needs}
 use Rattle.krunvedo.proofs.krunvedo_step.Statement.{statement}
 use Rattle.krunvedo.proofs.krunvedo_step.Tie as tie

@@ -1,9 +1,9 @@
 -- `krunvedo_target` meets its contract: the refusal and the kind as numbers, and the tokens as they are.
 use mathlib.Core.Path.{_∙_, ap, ap₂}
 use Prim.Native.Nat.{ℕ}
-use Rattle.krunvedo.specs.declared.numbers.Refused as refused
-use Rattle.krunvedo.specs.declared.numbers.Target.{Target}
-use Rattle.krunvedo.specs.Numbers.{targetIs}
+use Rattle.numbers.specs.declared.Refused as refused
+use Rattle.numbers.specs.declared.Target.{Target}
+use Rattle.numbers.specs.Numbers.{targetIs}
 use borrow.Author.Needs.{needs}
 use Rattle.krunvedo.proofs.krunvedo_target.Statement.{statement}
 use Rattle.krunvedo.proofs.krunvedo_target.Tie as tie

@@ -1,9 +1,9 @@
 -- `krunvedo_verdict` meets its contract: the answer that the call gives, as numbers, and the areas as it leaves them.
 use mathlib.Core.Path.{_∙_, ap, ap₂}
 use Prim.Native.Nat.{ℕ}
-use Rattle.krunvedo.specs.declared.numbers.Refused as refused
-use Rattle.krunvedo.specs.declared.numbers.Verdict.{Verdict}
-use Rattle.krunvedo.specs.Numbers.{verdictRefusal}
+use Rattle.numbers.specs.declared.Refused as refused
+use Rattle.numbers.specs.declared.Verdict.{Verdict}
+use Rattle.numbers.specs.Numbers.{verdictRefusal}
 use borrow.Author.Needs.{needs}
 use Rattle.krunvedo.proofs.krunvedo_verdict.Statement.{statement}
 use Rattle.krunvedo.proofs.krunvedo_verdict.Tie as tie

@@ -1,8 +1,8 @@
 -- `krunvedo_weights` meets its contract: the refusal as numbers, and the weights as they are.
 use mathlib.Core.Path.{_∙_, ap}
-use Rattle.krunvedo.specs.declared.numbers.Refused as refused
-use Rattle.krunvedo.specs.declared.numbers.Weighted.{Weighted}
-use Rattle.krunvedo.specs.Numbers.{weightsIs}
+use Rattle.numbers.specs.declared.Refused as refused
+use Rattle.numbers.specs.declared.Weighted.{Weighted}
+use Rattle.numbers.specs.Numbers.{weightsIs}
 use borrow.Author.Needs.{needs}
 use Rattle.krunvedo.proofs.krunvedo_weights.Statement.{statement}
 use Rattle.krunvedo.proofs.krunvedo_weights.Tie as tie

@@ -1,6 +1,7 @@
 // Answers as C takes them: numbers and rows of numbers, laid out as C lays them out. An enum's case is a number here.
 ghost use mathlib.Core.Path.{_≡_};
-ghost use Rattle.krunvedo.specs.Numbers.{refusalIs, checkIs, readingIs, kindIs, twinIs, pairNumber, pairRefusal, verdictNumber, verdictRefusal, verdictTransition};
+ghost use Rattle.numbers.specs.Numbers.{refusalIs, checkIs, readingIs, kindIs, twinIs, pairNumber, pairRefusal, listedIs, verdictNumber, verdictRefusal, verdictTransition};
+use listing::Listed;
 use reader::Check;
 use reader::Reading;
 use terms::Kind;
@@ -81,6 +82,13 @@ pub struct Verdict {
 pub struct Twinned {
     pub refusal: Refused,
     pub claim: usize,
+}
+
+// Number 0 and the text's length, or a refusal's number and its detail. Two words, so that an export needs no hidden pointer to it.
+#[repr(C)]
+pub struct Written {
+    pub number: u8,
+    pub value: usize,
 }
 
 impl Refused {
@@ -214,5 +222,23 @@ pub fn twin_number(t: Twin) -> Twinned
             refusal: Refused::by(r),
             claim: 0,
         },
+    }
+}
+
+pub fn written_number(l: Listed) -> Written
+    ensures { λ x. ⌜ x ≡ listedIs l ⌝ }
+{
+    match l {
+        Listed::Written(length) => Written {
+            number: 0,
+            value: length,
+        },
+        Listed::Refused(r) => {
+            let detail = r.value();
+            Written {
+                number: r.number,
+                value: detail,
+            }
+        }
     }
 }

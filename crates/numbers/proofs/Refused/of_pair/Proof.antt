@@ -1,9 +1,9 @@
 -- `Refused::of_pair` meets its contract: each arm is a case of the definition.
 use mathlib.Core.Path.{_∙_, sym, ap}
-use Rattle.krunvedo.specs.Numbers.{pairRefusal}
+use Rattle.numbers.specs.Numbers.{pairRefusal}
 use borrow.Author.Needs.{needs}
-use Rattle.krunvedo.proofs.numbers.Refused.of_pair.Statement.{statement}
-use Rattle.krunvedo.proofs.numbers.Refused.of_pair.Tie as tie
+use Rattle.numbers.proofs.Refused.of_pair.Statement.{statement}
+use Rattle.numbers.proofs.Refused.of_pair.Tie as tie
 
 enum-told : tie.Need-enum-told
 enum-told c = search needs

@@ -1,10 +1,10 @@
 -- `Refused::by` meets its contract: the detail is the number that `value` gives.
 use mathlib.Core.Path.{ap}
 use Prim.Native.Nat.{ℕ}
-use Rattle.krunvedo.specs.declared.numbers.Refused as refused
+use Rattle.numbers.specs.declared.Refused as refused
 use borrow.Author.Needs.{needs}
-use Rattle.krunvedo.proofs.numbers.Refused.by.Statement.{statement}
-use Rattle.krunvedo.proofs.numbers.Refused.by.Tie as tie
+use Rattle.numbers.proofs.Refused.by.Statement.{statement}
+use Rattle.numbers.proofs.Refused.by.Tie as tie
 
 value-requires : tie.Need-value-requires
 value-requires c κs = search needs

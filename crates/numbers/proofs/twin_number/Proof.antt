@@ -1,11 +1,11 @@
 -- `twin_number` meets its contract: each arm is a case of the definition.
 use mathlib.Core.Path.{_∙_, sym, ap}
-use Rattle.krunvedo.specs.declared.numbers.Refused as refused
-use Rattle.krunvedo.specs.declared.numbers.Twinned.{Twinned}
-use Rattle.krunvedo.specs.Numbers.{twinIs}
+use Rattle.numbers.specs.declared.Refused as refused
+use Rattle.numbers.specs.declared.Twinned.{Twinned}
+use Rattle.numbers.specs.Numbers.{twinIs}
 use borrow.Author.Needs.{needs}
-use Rattle.krunvedo.proofs.numbers.twin_number.Statement.{statement}
-use Rattle.krunvedo.proofs.numbers.twin_number.Tie as tie
+use Rattle.numbers.proofs.twin_number.Statement.{statement}
+use Rattle.numbers.proofs.twin_number.Tie as tie
 
 enum-known-t : tie.Need-enum-known-t
 enum-known-t c = search needs

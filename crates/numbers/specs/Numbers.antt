@@ -22,15 +22,18 @@ use Rattle.twins.specs.declared.Reduced.{Reduced}
 use Rattle.twins.specs.declared.Twin.{Twin}
 use Rattle.twins.specs.declared.Twin.the-variants as twin-answers
 use Rattle.walk.specs.declared.Begun.{Begun}
-use Rattle.krunvedo.specs.declared.numbers.Refused as refused
-use Rattle.krunvedo.specs.declared.numbers.Counted.{Counted}
-use Rattle.krunvedo.specs.declared.numbers.Weighted.{Weighted}
-use Rattle.krunvedo.specs.declared.numbers.Tokens.{Tokens}
-use Rattle.krunvedo.specs.declared.numbers.Target.{Target}
-use Rattle.krunvedo.specs.declared.numbers.Space.{Space}
-use Rattle.krunvedo.specs.declared.numbers.Paired.{Paired}
-use Rattle.krunvedo.specs.declared.numbers.Verdict.{Verdict}
-use Rattle.krunvedo.specs.declared.numbers.Twinned.{Twinned}
+use Rattle.listing.specs.declared.Listed.{Listed}
+use Rattle.listing.specs.declared.Listed.the-variants as listed
+use Rattle.numbers.specs.declared.Refused as refused
+use Rattle.numbers.specs.declared.Counted.{Counted}
+use Rattle.numbers.specs.declared.Weighted.{Weighted}
+use Rattle.numbers.specs.declared.Tokens.{Tokens}
+use Rattle.numbers.specs.declared.Target.{Target}
+use Rattle.numbers.specs.declared.Space.{Space}
+use Rattle.numbers.specs.declared.Paired.{Paired}
+use Rattle.numbers.specs.declared.Verdict.{Verdict}
+use Rattle.numbers.specs.declared.Twinned.{Twinned}
+use Rattle.numbers.specs.declared.Written.{Written}
 
 -- A refusal has its number and its detail. Where nothing is refused both are 0, which is no refusal's number.
 abbrev pub nothing : refused.Refused
@@ -118,3 +121,8 @@ twinIs (twin-answers.Refused r) = record { refusal = refusalIs r; claim = 0 }
 -- the marking that a walk begins at
 abbrev pub begunIs : Begun → Tokens
 begunIs b = record { refusal = checkIs (b .answer); tokens = b .marking .tokens }
+
+-- a text that was written: its length, or the refusal
+abbrev pub listedIs : Listed → Written
+listedIs (listed.Written n) = record { number = 0; value = n }
+listedIs (listed.Refused r) = record { number = r .number; value = detailOf (r .detail) }

@@ -1,11 +1,11 @@
 -- `counts_of` meets its contract: each arm is a case of the definition.
 use mathlib.Core.Path.{_∙_, sym, ap}
-use Rattle.krunvedo.specs.declared.numbers.Refused as refused
-use Rattle.krunvedo.specs.declared.numbers.Counted.{Counted}
-use Rattle.krunvedo.specs.Numbers.{readingIs}
+use Rattle.numbers.specs.declared.Refused as refused
+use Rattle.numbers.specs.declared.Counted.{Counted}
+use Rattle.numbers.specs.Numbers.{readingIs}
 use borrow.Author.Needs.{needs}
-use Rattle.krunvedo.proofs.numbers.counts_of.Statement.{statement}
-use Rattle.krunvedo.proofs.numbers.counts_of.Tie as tie
+use Rattle.numbers.proofs.counts_of.Statement.{statement}
+use Rattle.numbers.proofs.counts_of.Tie as tie
 
 enum-known-answer : tie.Need-enum-known-answer
 enum-known-answer c = search needs

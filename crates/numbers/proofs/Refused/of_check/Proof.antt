@@ -1,9 +1,9 @@
 -- `Refused::of_check` meets its contract: each arm is a case of the definition.
 use mathlib.Core.Path.{_∙_, sym, ap}
-use Rattle.krunvedo.specs.Numbers.{checkIs}
+use Rattle.numbers.specs.Numbers.{checkIs}
 use borrow.Author.Needs.{needs}
-use Rattle.krunvedo.proofs.numbers.Refused.of_check.Statement.{statement}
-use Rattle.krunvedo.proofs.numbers.Refused.of_check.Tie as tie
+use Rattle.numbers.proofs.Refused.of_check.Statement.{statement}
+use Rattle.numbers.proofs.Refused.of_check.Tie as tie
 
 enum-told : tie.Need-enum-told
 enum-told c = search needs
