@@ -18,6 +18,18 @@ pub enum Check {
     Refused(Refusal),
 }
 
+// The numbers of places and transitions.
+pub struct Extent {
+    pub places: usize,
+    pub transitions: usize,
+}
+
+// A net's extent, or the refusal of the sheet's first fault so far.
+pub enum Measured {
+    As(Extent),
+    Faulty(Refusal),
+}
+
 pub struct Counts {
     pub places: usize,
     pub transitions: usize,
@@ -46,10 +58,8 @@ pub fn read(sheet: &[u8]) -> Reading
     ensures { λ r. ⌜ r ≡ answerOf (reading (now (sheet .entry))) ⌝ }
 {
     let up_to_target = front(sheet);
-    if let Check::Refused(r) = up_to_target {
-        return Reading::Malformed(r);
+    match up_to_target {
+        Measured::As(net) => claims(sheet, net.places, net.transitions),
+        Measured::Faulty(r) => Reading::Malformed(r),
     }
-    let n = sheet[2] as usize;
-    let t = sheet[3] as usize;
-    claims(sheet, n, t)
 }
