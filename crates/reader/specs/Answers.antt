@@ -46,3 +46,7 @@ answerOf (refused r) = Malformed r
 abbrev pub checkOf : Reading → Check
 checkOf (Sound k) = Fine
 checkOf (Malformed r) = Refused r
+
+abbrev pub IsMalformed : Reading → Type 0
+IsMalformed (Sound k) = ⊥
+IsMalformed (Malformed r) = Unit {0}

@@ -1,7 +1,7 @@
 // The reader of sheets: document 01, "What the sheet holds" and "Numbers that say no".
 ghost use mathlib.Core.Path.{_≡_};
 ghost use Rattle.format.specs.Reading.{reading};
-ghost use Rattle.reader.specs.Answers.{checkOf, answerOf};
+ghost use Rattle.reader.specs.Answers.{checkOf, IsMalformed, answerOf};
 
 mod fields; // fields.rt: marks, lengths and fields of one kind
 pub mod layout; // layout.rt: where the records stand
@@ -49,6 +49,17 @@ impl Reading {
         match self {
             Reading::Sound(_) => Check::Fine,
             Reading::Malformed(r) => Check::Refused(r),
+        }
+    }
+
+    // The refusal, for a call to pass on where the sheet is not sound. The case of a sound one is never reached.
+    pub fn refusal(self) -> Refusal
+        requires { ⌜ IsMalformed self ⌝ }
+        ensures { λ r. ⌜ self ≡ Reading.Malformed r ⌝ }
+    {
+        match self {
+            Reading::Sound(_) => Refusal::at_byte(1, 0),
+            Reading::Malformed(r) => r,
         }
     }
 }
