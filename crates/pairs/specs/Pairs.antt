@@ -33,13 +33,9 @@ abbrev pub pairCheck : Read Contents → Claim → Transition → ℕ → ℕ �
 pairCheck (refused r) i t marks queue = Refused r
 pairCheck (sound x) i t marks queue = countedCheck (countsOf x) i t marks queue
 
--- an answer with no marking to show, and a check passed on
+-- an answer with no marking to show
 abbrev pub plainPair : Answer → Pair
 plainPair answer = record { answer = answer; marking = spaces.sixteen 0 [] }
-
-abbrev pub passedPair : Check → Pair
-passedPair Fine = plainPair answers.Kept
-passedPair (Refused r) = plainPair (answers.Refused r)
 
 -- kept exactly if no marking is bad; broken with one that is, held as 16 numbers; a refusal has zeros
 abbrev pub Says : spaces.HalfSpace → nets.Transition → Answer → List ℕ → Type 0

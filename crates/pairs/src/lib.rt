@@ -8,7 +8,7 @@ ghost use Rattle.format.specs.Read.{sound};
 ghost use Rattle.format.specs.Contents.{Contents, halfSpace, claim};
 ghost use Rattle.format.specs.Reading.{reading};
 ghost use Rattle.pairs.specs.Crosses.{Crosses};
-ghost use Rattle.pairs.specs.Pairs.{Asked, IsPair, plainPair, passedPair, countedCheck, pairCheck, areaAfter};
+ghost use Rattle.pairs.specs.Pairs.{Asked, IsPair, plainPair, countedCheck, pairCheck, areaAfter};
 
 pub mod crossing; // crossing.rt: a half space and a transition, as numbers
 mod window; // window.rt: the ends of Theorem 1's window, and the marking beside it
@@ -49,16 +49,6 @@ impl Pair {
         Pair {
             answer,
             marking: [0u16; Place::MOST],
-        }
-    }
-
-    // A check passed on.
-    fn passed(check: Check) -> Pair
-        ensures { λ r. ⌜ r ≡ passedPair check ⌝ }
-    {
-        match check {
-            Check::Fine => Pair::plain(Answer::Kept),
-            Check::Refused(r) => Pair::plain(Answer::Refused(r)),
         }
     }
 }
@@ -134,12 +124,12 @@ pub fn pair_of(sheet: &[u8], i: Claim, t: Transition, marks: &mut [u8], queue: &
 {
     let answer = read(sheet);
     let Reading::Sound(counts) = answer else {
-        return Pair::passed(answer.check());
+        return Pair::plain(Answer::Refused(answer.refusal()));
     };
     let check = checked(counts, i, t, marks.len(), queue.len());
-    let Check::Fine = check else {
-        return Pair::passed(check);
-    };
+    if let Check::Refused(r) = check {
+        return Pair::plain(Answer::Refused(r));
+    }
     let crossing = ask(sheet, counts, i.0, t.0, marks, queue);
     if !crossing.hit {
         return Pair::plain(Answer::Kept);

@@ -1,4 +1,5 @@
 pub mod Checks
 pub mod Each
 pub mod Turns
+pub mod Sizes
 pub mod Sheet

@@ -2,11 +2,14 @@
 use mathlib.Core.List.{List}
 use Prim.Native.Nat.{ℕ}
 use lib.ListN.{length}
+use Rattle.nets.specs.Verdicts.{Setting}
 use Rattle.format.specs.Read.{Read, sound, refused}
 use Rattle.format.specs.Contents.{Claim, Contents}
 use Rattle.format.specs.Reading.{Size}
 use Rattle.reader.specs.declared.Check.{Check}
 use Rattle.reader.specs.declared.Check.the-variants.{Fine, Refused}
+use Rattle.reader.specs.declared.Measured.{Measured}
+use Rattle.reader.specs.declared.Measured.the-variants.{As, Faulty}
 use Rattle.reader.specs.declared.Counts.{Counts}
 use Rattle.reader.specs.declared.Reading.{Reading}
 use Rattle.reader.specs.declared.Reading.the-variants.{Sound, Malformed}
@@ -15,6 +18,16 @@ use Rattle.reader.specs.declared.Reading.the-variants.{Sound, Malformed}
 abbrev pub checked : {A : Type 0} → Read A → Check
 checked (sound a) = Fine
 checked (refused r) = Refused r
+
+-- the net's size as NP says it, or the refusal
+abbrev pub sizedOf : Read Size → Measured
+sizedOf (sound z) = As (record { places = z .n; transitions = z .T })
+sizedOf (refused r) = Faulty r
+
+-- the net's own size, where NP to TG are sound, or the refusal
+abbrev pub frontAnswer : Read Setting → Measured
+frontAnswer (sound q) = As (record { places = q .net .places; transitions = length (q .net .transitions) })
+frontAnswer (refused r) = Faulty r
 
 -- the counts are the sheet's
 abbrev pub countsOf : Contents → Counts
@@ -33,3 +46,7 @@ answerOf (refused r) = Malformed r
 abbrev pub checkOf : Reading → Check
 checkOf (Sound k) = Fine
 checkOf (Malformed r) = Refused r
+
+abbrev pub IsMalformed : Reading → Type 0
+IsMalformed (Sound k) = ⊥
+IsMalformed (Malformed r) = Unit {0}

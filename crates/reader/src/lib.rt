@@ -1,7 +1,7 @@
 // The reader of sheets: document 01, "What the sheet holds" and "Numbers that say no".
 ghost use mathlib.Core.Path.{_≡_};
 ghost use Rattle.format.specs.Reading.{reading};
-ghost use Rattle.reader.specs.Answers.{checkOf, answerOf};
+ghost use Rattle.reader.specs.Answers.{checkOf, IsMalformed, answerOf};
 
 mod fields; // fields.rt: marks, lengths and fields of one kind
 pub mod layout; // layout.rt: where the records stand
@@ -16,6 +16,18 @@ use terms::Refusal;
 pub enum Check {
     Fine,
     Refused(Refusal),
+}
+
+// The numbers of places and transitions.
+pub struct Extent {
+    pub places: usize,
+    pub transitions: usize,
+}
+
+// A net's extent, or the refusal of the sheet's first fault so far.
+pub enum Measured {
+    As(Extent),
+    Faulty(Refusal),
 }
 
 pub struct Counts {
@@ -39,6 +51,17 @@ impl Reading {
             Reading::Malformed(r) => Check::Refused(r),
         }
     }
+
+    // The refusal, for a call to pass on where the sheet is not sound. The case of a sound one is never reached.
+    pub fn refusal(self) -> Refusal
+        requires { ⌜ IsMalformed self ⌝ }
+        ensures { λ r. ⌜ self ≡ Reading.Malformed r ⌝ }
+    {
+        match self {
+            Reading::Sound(_) => Refusal::at_byte(1, 0),
+            Reading::Malformed(r) => r,
+        }
+    }
 }
 
 // Reads a sheet, left to right and once: its counts, or the refusal of its first fault.
@@ -46,10 +69,8 @@ pub fn read(sheet: &[u8]) -> Reading
     ensures { λ r. ⌜ r ≡ answerOf (reading (now (sheet .entry))) ⌝ }
 {
     let up_to_target = front(sheet);
-    if let Check::Refused(r) = up_to_target {
-        return Reading::Malformed(r);
+    match up_to_target {
+        Measured::As(net) => claims(sheet, net.places, net.transitions),
+        Measured::Faulty(r) => Reading::Malformed(r),
     }
-    let n = sheet[2] as usize;
-    let t = sheet[3] as usize;
-    claims(sheet, n, t)
 }

@@ -3,8 +3,10 @@ ghost use mathlib.Core.Path.{_≡_};
 ghost use Prim.Native.Nat.{_+_, _*_, _≤_};
 ghost use lib.ListN.{length};
 ghost use Rattle.format.specs.Reading.{sizeOf, headOf, transitionAt, startAt, targetAt, claimAt, settingOf, frontOf};
-ghost use Rattle.reader.specs.Answers.{checked};
+ghost use Rattle.reader.specs.Answers.{checked, sizedOf, frontAnswer};
 use super::Check;
+use super::Extent;
+use super::Measured;
 use super::fields::coefficients;
 use super::fields::constant;
 use super::fields::opened;
@@ -16,28 +18,32 @@ use super::layout::target_from;
 use super::runs::transitions;
 use terms::Kind;
 use terms::Place;
+use terms::Refusal;
 use terms::Transition;
 
 // NP: the numbers of places and transitions.
-fn head(s: &[u8]) -> Check
-    ensures { λ r. ⌜ r ≡ checked (headOf (now (s .entry))) ⌝ }
+fn head(s: &[u8]) -> Measured
+    ensures { λ r. ⌜ r ≡ sizedOf (headOf (now (s .entry))) ⌝ }
 {
-    let open = opened(s, 0, b'N', b'P', 4);
-    let Check::Fine = open else {
-        return open;
-    };
+    let opening = opened(s, 0, b'N', b'P', 4);
+    if let Check::Refused(r) = opening {
+        return Measured::Faulty(r);
+    }
     let n = s[2] as usize;
     if n < 1 {
-        return refuse(3, 2);
+        return Measured::Faulty(Refusal::at_byte(3, 2));
     }
     if Place::MOST < n {
-        return refuse(3, 2);
+        return Measured::Faulty(Refusal::at_byte(3, 2));
     }
     let t = s[3] as usize;
     if Transition::MOST < t {
-        return refuse(3, 3);
+        return Measured::Faulty(Refusal::at_byte(3, 3));
     }
-    Check::Fine
+    Measured::As(Extent {
+        places: n,
+        transitions: t,
+    })
 }
 
 // TR: the weights taken and put.
@@ -108,14 +114,16 @@ fn setting(s: &[u8], n: usize, t: usize) -> Check
 }
 
 // NP to TG.
-pub fn front(s: &[u8]) -> Check
-    ensures { λ r. ⌜ r ≡ checked (frontOf (now (s .entry))) ⌝ }
+pub fn front(s: &[u8]) -> Measured
+    ensures { λ r. ⌜ r ≡ frontAnswer (frontOf (now (s .entry))) ⌝ }
 {
     let first = head(s);
-    let Check::Fine = first else {
+    let Measured::As(net) = first else {
         return first;
     };
-    let n = s[2] as usize;
-    let t = s[3] as usize;
-    setting(s, n, t)
+    let rest = setting(s, net.places, net.transitions);
+    if let Check::Refused(r) = rest {
+        return Measured::Faulty(r);
+    }
+    first
 }

@@ -1,18 +1,22 @@
 -- What a sheet that was read holds, claim by claim and transition by transition, and that all of it is within the limits.
-use mathlib.Core.Path.{_≡_, refl, sym, ap, _∙_, subst}
+use mathlib.Core.Path.{_≡_, refl, sym, ap, ap₂, _∙_, subst}
 use mathlib.Core.List.{List, [], _∷_, map}
 use Prim.Native.Nat.{ℕ, zero, suc, _+_, _-_, _*_, _≤_, _<_}
 use native.Mathlib.Omega.{arith}
-use lib.ListN.{length, getD}
+use lib.IntN.{ℤ, pos}
+use lib.ListN.{length, getD, take}
+use lib.Seq.{take-at}
+use Rattle.nets.specs.HalfSpaces.{HalfSpace, sixteen}
 use Rattle.nets.specs.Nets.{Transition, transition, none}
 use Rattle.format.specs.Read.{Read, sound}
-use Rattle.format.specs.Contents.{Contents, claim, no-claim}
+use Rattle.format.specs.Contents.{Contents, halfSpace, claim, no-claim}
 use Rattle.format.specs.Formed.{All, IsSheet, Formed, FormedClaim, FormedTransition}
 use Rattle.format.specs.Reading.{sizeOf, transitionIn, targetIn, claimIn, words, transitionSize, claimSize, transitionsFrom, targetFrom, claimsFrom, reading}
 use Rattle.format.proofs.Places.{Held, held}
 use Rattle.format.proofs.Accepted.{formed}
 use Rattle.reader.specs.declared.Counts.{Counts}
 use Rattle.sheet.specs.Known.{Known}
+use Rattle.sheet.proofs.Filled.{length-signed}
 use Rattle.sheet.proofs.Taken.{most, weights-fit, weights-taken, claim-fits, claim-taken, start-fits, start-taken, target-fits, target-taken, tc-is, c-is}
 
 all-at : {A : Type 0} (P : A → Type 0) (d : A) (xs : List A) (i : ℕ) → i < length xs → All P xs → P (getD xs i d)
@@ -43,6 +47,12 @@ module _ (s : List ℕ) (k : Counts) (q : Known s k) where
 
     pub claim-is : claimIn s (k .places) from ≡ claim x i
     claim-is = claim-taken s x k there (q .counts) from (i - 1) (omega arith) is ∙ ap (claim x) (one i some)
+
+    -- as sixteen numbers and a constant: those that are taken from the record are the claim's
+    pub space-is : (row : List ℤ) (c : ℤ) → row ≡ sixteen (pos 0) (claimIn s (k .places) from .coefficients) → c ≡ claimIn s (k .places) from .constant → _≡_ {A = HalfSpace} (record { coefficients = take (k .places) row; constant = c }) (halfSpace (claim x i))
+    space-is row c r e =
+        let ks = claimIn s (k .places) from .coefficients in
+        ap₂ {C = HalfSpace} (λ (l : List ℤ) (z : ℤ). record { coefficients = l; constant = z }) (ap (take (k .places)) r ∙ take-at ks _ (k .places) (length-signed s (from + 2) (k .places))) e ∙ claim-is
 
   module _ (t : ℕ) (some : 1 ≤ t) (few : t ≤ k .transitions) (at : ℕ) (is : at ≡ transitionsFrom + (t - 1) * transitionSize (k .places)) where
     pub weights-whole : at + 2 + k .places + k .places ≤ length s

@@ -12,11 +12,10 @@ use reader::layout::behind_claims;
 use reader::layout::behind_transitions;
 use reader::layout::target_from;
 use reader::read;
-use rows::coefficients_from;
+use rows::numbers_at;
 use rows::tokens_from;
 use rows::weights_from;
 use terms::Claim;
-use terms::Constant;
 use terms::Kind;
 use terms::Place;
 use terms::Refusal;
@@ -148,12 +147,12 @@ pub fn half_space_of(sheet: &[u8], i: Claim) -> HalfSpace
     }
     let n = counts.places;
     let at = behind_claims(n, counts.transitions, i.0 - 1);
-    let coefficients = coefficients_from(sheet, at + 2, n);
-    let constant = Constant::of_bytes(sheet[at + 2 + n], sheet[at + 3 + n]);
+    let h = numbers_at(sheet, at, n);
+    let coefficients = h.coefficients;
     HalfSpace {
         answer: Check::Fine,
         coefficients,
-        constant: constant.0,
+        constant: h.constant,
     }
 }
 

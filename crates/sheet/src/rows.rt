@@ -41,7 +41,7 @@ pub fn tokens_from(s: &[u8], at: usize, n: usize) -> [u16; Place::MOST]
     row
 }
 
-pub fn coefficients_from(s: &[u8], at: usize, n: usize) -> [i8; Place::MOST]
+fn coefficients_from(s: &[u8], at: usize, n: usize) -> [i8; Place::MOST]
     requires { ⌜ (n ≤ 16) × (at + n ≤ length (now s)) ⌝ }
     ensures { λ r. ⌜ r ≡ sixteen (pos 0) (map twos8 (bytes (now (s .entry)) at n)) ⌝ }
 {

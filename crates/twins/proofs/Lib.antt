@@ -3,5 +3,5 @@ pub mod Common
 pub mod Scaled
 pub mod Rows
 pub mod Entries
-pub mod Records
+pub mod Earlier
 pub mod OneAnswer

@@ -1,6 +1,6 @@
 -- The reduced form and the earlier twin of a claim, as the calls answer: document 01, "Half spaces and verdicts", "The listing".
 use mathlib.Core.Path.{_≡_}
-use mathlib.Core.List.{List, []}
+use mathlib.Core.List.{[]}
 use Prim.Native.Nat.{ℕ, zero, suc, _≤_, _<_}
 use lib.IntN.{pos}
 use Rattle.terms.specs.declared.Claim.{Claim}
@@ -8,9 +8,6 @@ use Rattle.nets.specs.HalfSpaces.{HalfSpace, sixteen}
 use Rattle.nets.specs.Reduced.{IsReduced, Twins}
 use Rattle.format.specs.Read.{Read, sound, refused}
 use Rattle.format.specs.Contents.{Contents, halfSpace, claim}
-use Rattle.format.specs.Reading.{reading}
-use Rattle.reader.specs.Answers.{countsOf}
-use Rattle.reader.specs.declared.Counts.{Counts}
 use Rattle.reader.specs.declared.Check.{Check}
 use Rattle.reader.specs.declared.Check.the-variants.{Fine, Refused}
 use Rattle.sheet.specs.Held.{claimCheck}
@@ -56,11 +53,6 @@ TwinSays x i (twins.First j) = IsFirstTwin x i (j .0)
 TwinSays x i twins.Without = NoTwinBefore x i i
 TwinSays x i (twins.Refused q) = ⊥
 
--- a check passed on
-abbrev pub passedTwin : Check → Twin
-passedTwin Fine = twins.Without
-passedTwin (Refused q) = twins.Refused q
-
 -- the sheet's refusal, then 11, then the twin
 abbrev pub IsTwinIn : Check → Contents → Claim → Twin → Type 0
 IsTwinIn Fine x i r = TwinSays x (i .0) r
@@ -69,11 +61,3 @@ IsTwinIn (Refused q) x i r = r ≡ twins.Refused q
 abbrev pub IsTwinOf : Read Contents → Claim → Twin → Type 0
 IsTwinOf (refused q) i r = r ≡ twins.Refused q
 IsTwinOf (sound x) i r = IsTwinIn (claimCheck (sound x) i) x i r
-
--- what the inner questions ask: a sound sheet with these counts, and a claim number that is there
-pub record Claimed (s : List ℕ) (k : Counts) (i : ℕ) : Type 0 where
-  pub contents : Contents
-  pub is-read : reading s ≡ sound contents
-  pub counts : countsOf contents ≡ k
-  pub some : 1 ≤ i
-  pub most : i ≤ k .claims

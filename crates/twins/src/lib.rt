@@ -1,5 +1,6 @@
 // Reduced forms and twins: document 01, "Half spaces and verdicts".
 ghost use mathlib.Core.Path.{_≡_};
+ghost use Prim.Native.Nat.{_≤_};
 ghost use lib.IntN.{pos};
 ghost use lib.ListN.{take};
 ghost use Rattle.nets.specs.HalfSpaces.{sixteen};
@@ -7,8 +8,9 @@ ghost use Rattle.nets.specs.Reduced.{IsReduced};
 ghost use Rattle.format.specs.Read.{sound};
 ghost use Rattle.format.specs.Contents.{Contents, halfSpace, claim};
 ghost use Rattle.format.specs.Reading.{reading};
+ghost use Rattle.sheet.specs.Known.{Known};
 ghost use Rattle.twins.specs.Divisors.{spaceOf};
-ghost use Rattle.twins.specs.Answers.{Claimed, noForm, passedTwin, IsReducedOf, IsTwinNumber, IsTwinOf};
+ghost use Rattle.twins.specs.Answers.{noForm, IsReducedOf, IsTwinNumber, IsTwinOf};
 
 pub mod euclid; // euclid.rt: greatest common divisors
 mod multiples; // multiples.rt: a claim that is a number of times a form
@@ -23,9 +25,8 @@ use reader::layout::behind_claims;
 use reader::read;
 use reduction::Form;
 use reduction::reduced;
-use sheet::rows::coefficients_from;
+use sheet::rows::numbers_at;
 use terms::Claim;
-use terms::Constant;
 use terms::Place;
 use terms::Refusal;
 use terms::among;
@@ -55,33 +56,21 @@ impl Reduced {
     }
 }
 
-impl Twin {
-    // A check passed on.
-    fn passed(check: Check) -> Twin
-        ensures { λ r. ⌜ r ≡ passedTwin check ⌝ }
-    {
-        match check {
-            Check::Fine => Twin::Without,
-            Check::Refused(r) => Twin::Refused(r),
-        }
-    }
-}
-
 // The reduced form of claim i of a sound sheet.
 fn form_at(sheet: &[u8], counts: Counts, i: usize) -> Form
-    requires { ⌜ Claimed (now sheet) counts i ⌝ }
+    requires { ⌜ Known (now sheet) counts × (1 ≤ i) × (i ≤ counts .claims) ⌝ }
     ensures { λ r. ⌜ ((x : Contents) → reading (now (sheet .entry)) ≡ sound x → IsReduced (halfSpace (claim x i)) (spaceOf (counts .places) (r .coefficients) (r .constant))) × (r .coefficients ≡ sixteen (pos 0) (take (counts .places) (r .coefficients))) ⌝ }
 {
     let n = counts.places;
     let at = behind_claims(n, counts.transitions, i - 1);
-    let k = coefficients_from(sheet, at + 2, n);
-    let c = Constant::of_bytes(sheet[at + 2 + n], sheet[at + 3 + n]);
-    reduced(k, n, c.0)
+    let h = numbers_at(sheet, at, n);
+    let k = h.coefficients;
+    reduced(k, n, h.constant)
 }
 
 // The lowest claim before claim i of a sound sheet that is its twin, or 0.
 pub fn first_twin(sheet: &[u8], counts: Counts, i: usize) -> usize
-    requires { ⌜ Claimed (now sheet) counts i ⌝ }
+    requires { ⌜ Known (now sheet) counts × (1 ≤ i) × (i ≤ counts .claims) ⌝ }
     ensures { λ r. ⌜ ((x : Contents) → reading (now (sheet .entry)) ≡ sound x → IsTwinNumber x i r) ⌝ }
 {
     let n = counts.places;
@@ -124,7 +113,7 @@ pub fn twin_of(sheet: &[u8], i: Claim) -> Twin
 {
     let answer = read(sheet);
     let Reading::Sound(counts) = answer else {
-        return Twin::passed(answer.check());
+        return Twin::Refused(answer.refusal());
     };
     let there = among(i.0, counts.claims);
     if !there {

@@ -18,13 +18,9 @@ use Rattle.verdicts.specs.declared.Answer.{Answer}
 use Rattle.verdicts.specs.declared.Answer.the-variants as answers
 use Rattle.verdicts.specs.declared.Judged.{Judged}
 
--- an answer with no marking to show, and a check passed on
+-- an answer with no marking to show
 abbrev pub plainJudged : Answer → Judged
 plainJudged answer = record { answer = answer; marking = sixteen 0 [] }
-
-abbrev pub passedJudged : Check → Judged
-passedJudged Fine = plainJudged answers.Proof
-passedJudged (Refused r) = plainJudged (answers.Refused r)
 
 -- how each verdict is answered: broken names the transition, and its marking is held as 16 numbers, zero beyond place n
 abbrev pub judgedOf : nets.Verdict → Judged

@@ -8,7 +8,7 @@ ghost use Rattle.format.specs.Contents.{Contents, halfSpace, claim};
 ghost use Rattle.format.specs.Reading.{reading};
 ghost use Rattle.pairs.specs.Pairs.{areaAfter};
 ghost use Rattle.sheet.specs.Known.{Known};
-ghost use Rattle.verdicts.specs.Judged.{Judges, IsJudged, plainJudged, passedJudged, countedCheck, verdictCheck};
+ghost use Rattle.verdicts.specs.Judged.{Judges, IsJudged, plainJudged, countedCheck, verdictCheck};
 
 mod inside; // inside.rt: do the start, or some target marking, lie inside?
 pub mod space; // space.rt: the verdict on a half space, and on a claim of a sheet that was read
@@ -49,16 +49,6 @@ impl Judged {
         Judged {
             answer,
             marking: [0u16; Place::MOST],
-        }
-    }
-
-    // A check passed on.
-    fn passed(check: Check) -> Judged
-        ensures { λ r. ⌜ r ≡ passedJudged check ⌝ }
-    {
-        match check {
-            Check::Fine => Judged::plain(Answer::Proof),
-            Check::Refused(r) => Judged::plain(Answer::Refused(r)),
         }
     }
 }
@@ -102,11 +92,11 @@ pub fn verdict_of(sheet: &[u8], i: Claim, marks: &mut [u8], queue: &mut [u16]) -
 {
     let answer = read(sheet);
     let Reading::Sound(counts) = answer else {
-        return Judged::passed(answer.check());
+        return Judged::plain(Answer::Refused(answer.refusal()));
     };
     let check = checked(counts, i, marks.len(), queue.len());
-    let Check::Fine = check else {
-        return Judged::passed(check);
-    };
+    if let Check::Refused(r) = check {
+        return Judged::plain(Answer::Refused(r));
+    }
     settled(sheet, counts, i.0, marks, queue)
 }

@@ -11,9 +11,9 @@ use Rattle.nets.specs.HalfSpaces as spaces
 use Rattle.format.specs.Contents.{Contents, halfSpace, claim}
 use Rattle.format.specs.Reading.{transitionIn}
 use Rattle.format.proofs.ClaimRecord.{sheet-of}
-use Rattle.sheet.proofs.Known.{same-contents, limits, claim-whole, transition-is}
+use Rattle.sheet.proofs.Known.{same-contents, limits, claim-whole, transition-is, space-is}
 use Rattle.pairs.specs.Crosses.{Crosses, space}
-use Rattle.pairs.proofs.Asking.{space-is, numbers-fit, ready}
+use Rattle.pairs.proofs.Asking.{numbers-fit, ready}
 use borrow.Author.Needs.{needs}
 use Rattle.pairs.proofs.ask_in.Statement.{statement}
 use Rattle.pairs.proofs.ask_in.Tie as tie

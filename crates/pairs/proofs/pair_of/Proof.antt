@@ -10,7 +10,7 @@ use Rattle.nets.specs.HalfSpaces as spaces
 use Rattle.format.specs.Read.{Read, sound, refused}
 use Rattle.format.specs.Contents.{Contents, halfSpace, claim}
 use Rattle.format.specs.Reading.{reading}
-use Rattle.reader.specs.Answers.{checkOf, countsOf}
+use Rattle.reader.specs.Answers.{IsMalformed, countsOf}
 use Rattle.reader.specs.declared.Counts.{Counts}
 use Rattle.reader.specs.declared.Check.{Check}
 use Rattle.reader.specs.declared.Check.the-variants.{Fine, Refused}
@@ -18,7 +18,7 @@ use Rattle.sheet.proofs.Taken.{sound-answer, refused-answer}
 use Rattle.pairs.specs.declared.Pair.{Pair}
 use Rattle.pairs.specs.declared.Answer.the-variants.{Kept, Broken}
 use Rattle.pairs.specs.Crosses.{Crosses}
-use Rattle.pairs.specs.Pairs.{IsPair, IsPairIn, passedPair, countedCheck, pairCheck, areaAfter}
+use Rattle.pairs.specs.Pairs.{IsPair, IsPairIn, countedCheck, pairCheck, areaAfter}
 use Rattle.pairs.proofs.Order.{passed-all}
 use borrow.Author.Needs.{needs}
 use Rattle.pairs.proofs.pair_of.Statement.{statement}
@@ -33,44 +33,44 @@ enum-known-answer c = search needs
 enum-told : tie.Need-enum-told
 enum-told c = search needs
 
-check-requires : tie.Need-check-requires
-check-requires c κs = search needs
+refusal-requires : tie.Need-refusal-requires
+refusal-requires c κs = subst IsMalformed (sym (c .enum-told .given .1)) tt
 
-passed-requires : tie.Need-passed-requires
-passed-requires c κs = search needs
+plain-requires : tie.Need-plain-requires
+plain-requires c κs = search needs
 
 returns : tie.Need-returns
 returns c =
     let a = c .before .before .before .before .before .before .before .before .args in
     let m = length (a .marks .now) in
     let l = length (a .queue .now) in
-    let e = refused-answer (reading (a .sheet .now)) (sym (c .before .before .before .before .read .ensures) ∙ c .before .before .enum-told .given .1) in
+    let e = refused-answer (reading (a .sheet .now)) (sym (c .before .before .before .before .read .ensures) ∙ c .before .refusal .ensures) in
     let after : (old : List ℕ) → old ≡ areaAfter (pairCheck (reading (a .sheet .now)) (a .i) (a .t) m l) old =
     λ old. ap (λ (y : Read Contents). areaAfter (pairCheck y (a .i) (a .t) m l) old) (sym e) in
-    (subst (λ (y : Read Contents). IsPair y (a .i) (a .t) m l (c .passed .result)) (sym e) (c .passed .ensures ∙ ap passedPair (c .before .check .ensures ∙ ap checkOf (c .before .before .enum-told .given .1))), (after (a .marks .now), after (a .queue .now)))
+    (subst (λ (y : Read Contents). IsPair y (a .i) (a .t) m l (c .plain .result)) (sym e) (c .plain .ensures), (after (a .marks .now), after (a .queue .now)))
 
 checked-requires : tie.Need-checked-requires
 checked-requires c κs = search needs
 
-enum-told-2 : tie.Need-enum-told-2
-enum-told-2 c = search needs
+enum-known-check : tie.Need-enum-known-check
+enum-known-check c = search needs
 
-enum-told-3 : tie.Need-enum-told-3
-enum-told-3 c = search needs
-
-passed-requires-2 : tie.Need-passed-requires-2
-passed-requires-2 c κs = search needs
+plain-requires-2 : tie.Need-plain-requires-2
+plain-requires-2 c κs = search needs
 
 returns-2 : tie.Need-returns-2
 returns-2 c =
-    let a = c .before .before .before .before .before .before .before .before .before .before .before .args in
+    let a = c .before .before .before .before .before .before .before .before .before .before .before .before .args in
     let m = length (a .marks .now) in
     let l = length (a .queue .now) in
-    let x = sound-answer (reading (a .sheet .now)) (sym (c .before .before .before .before .before .before .before .read .ensures) ∙ c .before .before .before .before .before .answer .given .1) in
-    let ck : countedCheck (countsOf (x .0)) (a .i) (a .t) m l ≡ Refused (c .before .enum-told3 .given .0 .0) = ap (λ (k : Counts). countedCheck k (a .i) (a .t) m l) (x .2) ∙ sym (c .before .before .before .checked .ensures) ∙ c .before .enum-told3 .given .1 in
-    let after : (old : List ℕ) → areaAfter (Refused (c .before .enum-told3 .given .0 .0)) old ≡ areaAfter (pairCheck (reading (a .sheet .now)) (a .i) (a .t) m l) old =
+    let x = sound-answer (reading (a .sheet .now)) (sym (c .before .before .before .before .before .before .before .before .read .ensures) ∙ c .before .before .before .before .before .before .answer .given .1) in
+    let ck : countedCheck (countsOf (x .0)) (a .i) (a .t) m l ≡ Refused (c .before .before .check .given .0 .0) = ap (λ (k : Counts). countedCheck k (a .i) (a .t) m l) (x .2) ∙ sym (c .before .before .before .before .checked .ensures) ∙ c .before .before .check .given .1 in
+    let after : (old : List ℕ) → areaAfter (Refused (c .before .before .check .given .0 .0)) old ≡ areaAfter (pairCheck (reading (a .sheet .now)) (a .i) (a .t) m l) old =
     λ old. ap (λ (q : Check). areaAfter q old) (sym ck) ∙ ap (λ (y : Read Contents). areaAfter (pairCheck y (a .i) (a .t) m l) old) (sym (x .1)) in
-    (subst (λ (y : Read Contents). IsPair y (a .i) (a .t) m l (c .passed2 .result)) (sym (x .1)) (subst (λ (q : Check). IsPairIn q (x .0) (a .i) (a .t) (c .passed2 .result)) (sym ck) (c .passed2 .ensures ∙ ap passedPair (c .before .enum-told3 .given .1))), (after (a .marks .now), after (a .queue .now)))
+    (subst (λ (y : Read Contents). IsPair y (a .i) (a .t) m l (c .plain2 .result)) (sym (x .1)) (subst (λ (q : Check). IsPairIn q (x .0) (a .i) (a .t) (c .plain2 .result)) (sym ck) (c .plain2 .ensures)), (after (a .marks .now), after (a .queue .now)))
+
+enum-told-2 : tie.Need-enum-told-2
+enum-told-2 c = search needs
 
 ask-requires : tie.Need-ask-requires
 ask-requires c κs =
@@ -81,8 +81,8 @@ ask-requires c κs =
     let p = passed-all (c .before .before .before .before .before .before .answer .given .0 .0) (a .i) (a .t) m l (sym (c .before .before .before .before .checked .ensures) ∙ c .before .before .enum-told2 .given .1) in
     (record { known = record { contents = x .0; is-read = x .1; counts = x .2 }; some-claim = p .claim .0; most-claims = p .claim .1; some-transition = p .transition .0; most-transitions = p .transition .1 }, (p .marks-room, p .queue-room))
 
-plain-requires : tie.Need-plain-requires
-plain-requires c κs = search needs
+plain-requires-3 : tie.Need-plain-requires-3
+plain-requires-3 c κs = search needs
 
 same-length : tie.Need-same-length
 same-length c = search needs
@@ -103,7 +103,7 @@ returns-3 c =
     let got = k .ensures .0 (x .0) (x .1) in
     let miss : k .result .hit ≡ false = not-true (k .result .hit) (c .before .if1 .taken) in
     let kept = subst (λ (q : Bool). Crosses (halfSpace (claim (x .0) (a .i .0))) (nets.transition (x .0 .setting .net) (a .t .0)) q (k .result .marking)) miss got in
-    (subst (λ (r : Pair). IsPair (reading (a .sheet .now)) (a .i) (a .t) m l r) (sym (c .plain .ensures)) (subst (λ (y : Read Contents). IsPair y (a .i) (a .t) m l (record { answer = Kept; marking = spaces.sixteen 0 [] })) (sym (x .1)) (subst (λ (q : Check). IsPairIn q (x .0) (a .i) (a .t) (record { answer = Kept; marking = spaces.sixteen 0 [] })) (sym ck) ((kept .0, refl)))), (k .ensures .1 .0 ∙ after (a .marks .now), k .ensures .1 .1 ∙ after (a .queue .now)))
+    (subst (λ (r : Pair). IsPair (reading (a .sheet .now)) (a .i) (a .t) m l r) (sym (c .plain3 .ensures)) (subst (λ (y : Read Contents). IsPair y (a .i) (a .t) m l (record { answer = Kept; marking = spaces.sixteen 0 [] })) (sym (x .1)) (subst (λ (q : Check). IsPairIn q (x .0) (a .i) (a .t) (record { answer = Kept; marking = spaces.sixteen 0 [] })) (sym ck) ((kept .0, refl)))), (k .ensures .1 .0 ∙ after (a .marks .now), k .ensures .1 .1 ∙ after (a .queue .now)))
 
 same-length-3 : tie.Need-same-length-3
 same-length-3 c = search needs
@@ -133,16 +133,16 @@ pair-of-spec =
     read-requires
     enum-known-answer
     enum-told
-    check-requires
-    passed-requires
+    refusal-requires
+    plain-requires
     returns
     checked-requires
-    enum-told-2
-    enum-told-3
-    passed-requires-2
+    enum-known-check
+    plain-requires-2
     returns-2
+    enum-told-2
     ask-requires
-    plain-requires
+    plain-requires-3
     same-length
     same-length-2
     returns-3

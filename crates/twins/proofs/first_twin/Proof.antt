@@ -16,7 +16,8 @@ use Rattle.twins.specs.Divisors.{spaceOf}
 use Rattle.twins.specs.Multiples.{Tells, IsMultiple, IsPivot}
 use Rattle.twins.specs.Answers.{NoTwinBefore}
 use Rattle.twins.proofs.Scaled.{told-twins}
-use Rattle.twins.proofs.Records.{same-contents, limits, claim-whole, claim-is, no-twin-more, no-twin-yet, twin-number}
+use Rattle.sheet.proofs.Known.{same-contents, limits, claim-whole, claim-is}
+use Rattle.twins.proofs.Earlier.{no-twin-more, no-twin-yet, twin-number}
 use borrow.Author.Needs.{needs}
 use Rattle.twins.proofs.first_twin.Statement.{statement}
 use Rattle.twins.proofs.first_twin.Tie as tie
@@ -33,10 +34,10 @@ form-at-requires c κs = c .before .pre
 pivot-of-requires : tie.Need-pivot-of-requires Inv-loop μ-loop
 pivot-of-requires c κs =
     let a = c .before .before .before .before .args in
-    limits (a .sheet .now) (a .counts) (a .i) (c .before .before .before .before .pre) .0
+    limits (a .sheet .now) (a .counts) (c .before .before .before .before .pre .0) .0
 
 loop-holds : tie.Need-loop-holds Inv-loop μ-loop
-loop-holds c = (λ x e. no-twin-yet x (c .before .before .before .before .before .args .i), omega arith, omega (arith, c .before .before .before .before .before .pre .some))
+loop-holds c = (λ x e. no-twin-yet x (c .before .before .before .before .before .args .i), omega arith, omega (arith, c .before .before .before .before .before .pre .1))
 
 sub-behind-claims : tie.Need-sub-behind-claims Inv-loop μ-loop
 sub-behind-claims c = search needs
@@ -45,8 +46,8 @@ behind-claims-requires : tie.Need-behind-claims-requires Inv-loop μ-loop
 behind-claims-requires c κs =
     let a = c .before .before .before .before .before .before .before .args in
     let q = c .before .before .before .before .before .before .before .pre in
-    let b = limits (a .sheet .now) (a .counts) (a .i) q in
-    (b .0, b .1, omega (arith, b .2, q .most))
+    let b = limits (a .sheet .now) (a .counts) (q .0) in
+    (b .0, b .1, omega (arith, b .2, q .2))
 
 is-multiple-requires : tie.Need-is-multiple-requires Inv-loop μ-loop
 is-multiple-requires c κs =
@@ -56,7 +57,7 @@ is-multiple-requires c κs =
     let form = c .before .before .before .before .before .before .form-at .result in
     let pivot = c .before .before .before .pivot-of in
     let fits : SFits w16 (form .constant) = search needs in
-    (limits (a .sheet .now) (a .counts) (a .i) q .0, claim-whole (a .sheet .now) (a .counts) (a .i) q (l .j) (l .inv .1) (l .inv .2) (c .behind-claims .result) (c .behind-claims .ensures .0), subst (λ (z : ℤ). IsPivot (spaceOf (a .counts .places) (form .coefficients) z) (pivot .result .place) (pivot .result .size)) (toZ-ofZ fits) (pivot .ensures))
+    (limits (a .sheet .now) (a .counts) (q .0) .0, claim-whole (a .sheet .now) (a .counts) (q .0) (l .j) (l .inv .1) (omega (arith, l .inv .2, q .2)) (c .behind-claims .result) (c .behind-claims .ensures .0), subst (λ (z : ℤ). IsPivot (spaceOf (a .counts .places) (form .coefficients) z) (pivot .result .place) (pivot .result .size)) (toZ-ofZ fits) (pivot .ensures))
 
 -- the test tells whether claim j is a twin
 decides : (c : tie.After-is-multiple Inv-loop μ-loop) (t : Bool) → c .is-multiple .result ≡ t → (x : Contents) → reading (c .before .before .before .before .before .before .before .before .before .args .sheet .now) ≡ sound x → Tells t (Twins (halfSpace (claim x (c .before .before .before .before .before .before .before .before .before .args .i))) (halfSpace (claim x (c .before .before .before .loop .j))))
@@ -66,7 +67,7 @@ decides c t e x read =
     let l = c .before .before .before .loop in
     let f = c .before .before .before .before .before .before .before .form-at in
     let form : HalfSpace = spaceOf (a .counts .places) (f .result .coefficients) (f .result .constant) in
-    let there : claimIn (a .sheet .now) (a .counts .places) (c .before .behind-claims .result) ≡ halfSpace (claim x (l .j)) = claim-is (a .sheet .now) (a .counts) (a .i) q (l .j) (l .inv .1) (l .inv .2) (c .before .behind-claims .result) (c .before .behind-claims .ensures .0) ∙ ap (λ (y : Contents). claim y (l .j)) (same-contents (a .sheet .now) (q .contents) x (q .is-read) read) in
+    let there : claimIn (a .sheet .now) (a .counts .places) (c .before .behind-claims .result) ≡ halfSpace (claim x (l .j)) = claim-is (a .sheet .now) (a .counts) (q .0) (l .j) (l .inv .1) (omega (arith, l .inv .2, q .2)) (c .before .behind-claims .result) (c .before .behind-claims .ensures .0) ∙ ap (λ (y : Contents). claim y (l .j)) (same-contents (a .sheet .now) (q .0 .contents) x (q .0 .is-read) read) in
     let told : Tells t (IsMultiple (halfSpace (claim x (l .j))) form) = subst (λ (w : HalfSpace). Tells t (IsMultiple w form)) there (subst (λ (b : Bool). Tells b (IsMultiple (claimIn (a .sheet .now) (a .counts .places) (c .before .behind-claims .result)) form)) e (c .is-multiple .ensures)) in
     told-twins (halfSpace (claim x (a .i))) (halfSpace (claim x (l .j))) form (f .ensures .0 x read) t told
 

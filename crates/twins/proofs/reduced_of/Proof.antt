@@ -74,7 +74,7 @@ form-at-requires c κs =
     let k = c .before .before .before .answer .given .0 .0 in
     let x = sound-answer (reading (a .sheet .now)) (sym (c .before .before .before .before .before .read .ensures) ∙ c .before .before .before .answer .given .1) in
     let p = among-some (a .i .0) (k .claims) (sym (c .before .among .ensures) ∙ not-false (c .before .among .result) (c .if1 .left)) in
-    record { contents = x .0; is-read = x .1; counts = x .2; some = p .0; most = p .1 }
+    (record { contents = x .0; is-read = x .1; counts = x .2 }, p .0, p .1)
 
 returns-3 : tie.Need-returns-3
 returns-3 c =

@@ -1,5 +1,5 @@
 -- `twin_of` meets its contract: the sheet's refusal is passed on, then 11, and the number 0 stands for no twin.
-use mathlib.Core.Path.{_≡_, sym, ap, _∙_, subst}
+use mathlib.Core.Path.{_≡_, refl, sym, ap, _∙_, subst}
 use mathlib.Core.Bool.{Bool, true, false}
 use lib.ListN.{length}
 use borrow.Author.Tests.{not-true, not-false}
@@ -10,14 +10,14 @@ use Rattle.format.specs.Read.{Read, sound, choose}
 use Rattle.format.specs.Contents.{Contents}
 use Rattle.format.specs.Reading.{reading}
 use Rattle.format.proofs.Places.{held}
-use Rattle.reader.specs.Answers.{checkOf}
+use Rattle.reader.specs.Answers.{IsMalformed}
 use Rattle.reader.specs.declared.Check.{Check}
 use Rattle.reader.specs.declared.Check.the-variants.{Fine, Refused}
 use Rattle.sheet.specs.Held.{claimCheck}
 use Rattle.sheet.proofs.Taken.{sound-answer, refused-answer, among-some, c-is}
 use Rattle.twins.specs.declared.Twin.the-variants as twins
-use Rattle.twins.specs.Answers.{passedTwin, IsTwinNumber, IsTwinIn, IsTwinOf}
-use Rattle.twins.proofs.Records.{number-twin}
+use Rattle.twins.specs.Answers.{IsTwinNumber, IsTwinIn, IsTwinOf}
+use Rattle.twins.proofs.Earlier.{number-twin}
 use borrow.Author.Needs.{needs}
 use Rattle.twins.proofs.twin_of.Statement.{statement}
 use Rattle.twins.proofs.twin_of.Tie as tie
@@ -31,17 +31,14 @@ enum-known-answer c = search needs
 enum-told : tie.Need-enum-told
 enum-told c = search needs
 
-check-requires : tie.Need-check-requires
-check-requires c κs = search needs
-
-passed-requires : tie.Need-passed-requires
-passed-requires c κs = search needs
+refusal-requires : tie.Need-refusal-requires
+refusal-requires c κs = subst IsMalformed (sym (c .enum-told .given .1)) tt
 
 returns : tie.Need-returns
 returns c =
-    let a = c .before .before .before .before .before .before .args in
-    let e = refused-answer (reading (a .sheet .now)) (sym (c .before .before .before .before .read .ensures) ∙ c .before .before .enum-told .given .1) in
-    subst (λ (y : Read Contents). IsTwinOf y (a .i) (c .passed .result)) (sym e) (c .passed .ensures ∙ ap passedTwin (c .before .check .ensures ∙ ap checkOf (c .before .before .enum-told .given .1)))
+    let a = c .before .before .before .before .before .args in
+    let e = refused-answer (reading (a .sheet .now)) (sym (c .before .before .before .read .ensures) ∙ c .refusal .ensures) in
+    subst (λ (y : Read Contents). IsTwinOf y (a .i) (twins.Refused (c .refusal .result))) (sym e) refl
 
 among-requires : tie.Need-among-requires
 among-requires c κs = search needs
@@ -65,7 +62,7 @@ first-twin-requires c κs =
     let k = c .before .before .before .answer .given .0 .0 in
     let x = sound-answer (reading (a .sheet .now)) (sym (c .before .before .before .before .before .read .ensures) ∙ c .before .before .before .answer .given .1) in
     let p = among-some (a .i .0) (k .claims) (sym (c .before .among .ensures) ∙ not-false (c .before .among .result) (c .if1 .left)) in
-    record { contents = x .0; is-read = x .1; counts = x .2; some = p .0; most = p .1 }
+    (record { contents = x .0; is-read = x .1; counts = x .2 }, p .0, p .1)
 
 returns-3 : tie.Need-returns-3
 returns-3 c =
@@ -95,8 +92,7 @@ twin-of-spec =
     read-requires
     enum-known-answer
     enum-told
-    check-requires
-    passed-requires
+    refusal-requires
     returns
     among-requires
     no-claim-requires

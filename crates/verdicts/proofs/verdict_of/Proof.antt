@@ -6,13 +6,13 @@ use lib.ListN.{length}
 use Rattle.format.specs.Read.{Read, sound, refused}
 use Rattle.format.specs.Contents.{Contents, halfSpace, claim}
 use Rattle.format.specs.Reading.{reading}
-use Rattle.reader.specs.Answers.{checkOf, countsOf}
+use Rattle.reader.specs.Answers.{IsMalformed, countsOf}
 use Rattle.reader.specs.declared.Counts.{Counts}
 use Rattle.reader.specs.declared.Check.{Check}
 use Rattle.reader.specs.declared.Check.the-variants.{Fine, Refused}
 use Rattle.sheet.proofs.Taken.{sound-answer, refused-answer}
 use Rattle.pairs.specs.Pairs.{areaAfter}
-use Rattle.verdicts.specs.Judged.{IsJudged, IsJudgedIn, passedJudged, countedCheck, verdictCheck}
+use Rattle.verdicts.specs.Judged.{IsJudged, IsJudgedIn, countedCheck, verdictCheck}
 use Rattle.verdicts.proofs.Order.{passed-all}
 use borrow.Author.Needs.{needs}
 use Rattle.verdicts.proofs.verdict_of.Statement.{statement}
@@ -27,44 +27,44 @@ enum-known-answer c = search needs
 enum-told : tie.Need-enum-told
 enum-told c = search needs
 
-check-requires : tie.Need-check-requires
-check-requires c κs = search needs
+refusal-requires : tie.Need-refusal-requires
+refusal-requires c κs = subst IsMalformed (sym (c .enum-told .given .1)) tt
 
-passed-requires : tie.Need-passed-requires
-passed-requires c κs = search needs
+plain-requires : tie.Need-plain-requires
+plain-requires c κs = search needs
 
 returns : tie.Need-returns
 returns c =
     let a = c .before .before .before .before .before .before .before .before .args in
     let m = length (a .marks .now) in
     let l = length (a .queue .now) in
-    let e = refused-answer (reading (a .sheet .now)) (sym (c .before .before .before .before .read .ensures) ∙ c .before .before .enum-told .given .1) in
+    let e = refused-answer (reading (a .sheet .now)) (sym (c .before .before .before .before .read .ensures) ∙ c .before .refusal .ensures) in
     let after : (old : List ℕ) → old ≡ areaAfter (verdictCheck (reading (a .sheet .now)) (a .i) m l) old =
     λ old. ap (λ (y : Read Contents). areaAfter (verdictCheck y (a .i) m l) old) (sym e) in
-    (subst (λ (y : Read Contents). IsJudged y (a .i) m l (c .passed .result)) (sym e) (c .passed .ensures ∙ ap passedJudged (c .before .check .ensures ∙ ap checkOf (c .before .before .enum-told .given .1))), (after (a .marks .now), after (a .queue .now)))
+    (subst (λ (y : Read Contents). IsJudged y (a .i) m l (c .plain .result)) (sym e) (c .plain .ensures), (after (a .marks .now), after (a .queue .now)))
 
 checked-requires : tie.Need-checked-requires
 checked-requires c κs = search needs
 
-enum-told-2 : tie.Need-enum-told-2
-enum-told-2 c = search needs
+enum-known-check : tie.Need-enum-known-check
+enum-known-check c = search needs
 
-enum-told-3 : tie.Need-enum-told-3
-enum-told-3 c = search needs
-
-passed-requires-2 : tie.Need-passed-requires-2
-passed-requires-2 c κs = search needs
+plain-requires-2 : tie.Need-plain-requires-2
+plain-requires-2 c κs = search needs
 
 returns-2 : tie.Need-returns-2
 returns-2 c =
-    let a = c .before .before .before .before .before .before .before .before .before .before .before .args in
+    let a = c .before .before .before .before .before .before .before .before .before .before .before .before .args in
     let m = length (a .marks .now) in
     let l = length (a .queue .now) in
-    let x = sound-answer (reading (a .sheet .now)) (sym (c .before .before .before .before .before .before .before .read .ensures) ∙ c .before .before .before .before .before .answer .given .1) in
-    let ck : countedCheck (countsOf (x .0)) (a .i) m l ≡ Refused (c .before .enum-told3 .given .0 .0) = ap (λ (k : Counts). countedCheck k (a .i) m l) (x .2) ∙ sym (c .before .before .before .checked .ensures) ∙ c .before .enum-told3 .given .1 in
-    let after : (old : List ℕ) → areaAfter (Refused (c .before .enum-told3 .given .0 .0)) old ≡ areaAfter (verdictCheck (reading (a .sheet .now)) (a .i) m l) old =
+    let x = sound-answer (reading (a .sheet .now)) (sym (c .before .before .before .before .before .before .before .before .read .ensures) ∙ c .before .before .before .before .before .before .answer .given .1) in
+    let ck : countedCheck (countsOf (x .0)) (a .i) m l ≡ Refused (c .before .before .check .given .0 .0) = ap (λ (k : Counts). countedCheck k (a .i) m l) (x .2) ∙ sym (c .before .before .before .before .checked .ensures) ∙ c .before .before .check .given .1 in
+    let after : (old : List ℕ) → areaAfter (Refused (c .before .before .check .given .0 .0)) old ≡ areaAfter (verdictCheck (reading (a .sheet .now)) (a .i) m l) old =
     λ old. ap (λ (q : Check). areaAfter q old) (sym ck) ∙ ap (λ (y : Read Contents). areaAfter (verdictCheck y (a .i) m l) old) (sym (x .1)) in
-    (subst (λ (y : Read Contents). IsJudged y (a .i) m l (c .passed2 .result)) (sym (x .1)) (subst (λ (q : Check). IsJudgedIn q (x .0) (a .i) (c .passed2 .result)) (sym ck) (c .passed2 .ensures ∙ ap passedJudged (c .before .enum-told3 .given .1))), (after (a .marks .now), after (a .queue .now)))
+    (subst (λ (y : Read Contents). IsJudged y (a .i) m l (c .plain2 .result)) (sym (x .1)) (subst (λ (q : Check). IsJudgedIn q (x .0) (a .i) (c .plain2 .result)) (sym ck) (c .plain2 .ensures)), (after (a .marks .now), after (a .queue .now)))
+
+enum-told-2 : tie.Need-enum-told-2
+enum-told-2 c = search needs
 
 settled-requires : tie.Need-settled-requires
 settled-requires c κs =
@@ -100,14 +100,14 @@ verdict-of-spec =
     read-requires
     enum-known-answer
     enum-told
-    check-requires
-    passed-requires
+    refusal-requires
+    plain-requires
     returns
     checked-requires
-    enum-told-2
-    enum-told-3
-    passed-requires-2
+    enum-known-check
+    plain-requires-2
     returns-2
+    enum-told-2
     settled-requires
     same-length
     same-length-2

@@ -9,9 +9,9 @@ use mir.Facts.{toZ-ofZ}
 use Rattle.nets.specs.HalfSpaces as spaces
 use Rattle.format.specs.Contents.{Contents, halfSpace, claim}
 use Rattle.format.proofs.ClaimRecord.{sheet-of}
-use Rattle.sheet.proofs.Known.{same-contents, limits, claim-whole}
+use Rattle.sheet.proofs.Known.{same-contents, limits, claim-whole, space-is}
 use Rattle.pairs.specs.Crosses.{space}
-use Rattle.pairs.proofs.Asking.{space-is, numbers-fit}
+use Rattle.pairs.proofs.Asking.{numbers-fit}
 use Rattle.verdicts.specs.Judged.{Judges}
 use borrow.Author.Needs.{needs}
 use Rattle.verdicts.proofs.space.judge_claim.Statement.{statement}

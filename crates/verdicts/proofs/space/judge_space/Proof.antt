@@ -120,7 +120,8 @@ same-length c = search needs
 returns-3 : tie.Need-returns-3
 returns-3 c =
     let s = c .before .before .before .before .before .before .before .before .before .before .before .before .before .before .before in
-    let f = subst (FirstBroken (s .pre .0 .contents .setting .net) (half s)) (c .before .if3 .taken) (told-first (c .before .before .before .before)) in
+    let none : c .before .before .before .before .first-broken .result ≡ 0 = omega (arith, c .before .if3 .taken) in
+    let f = subst (FirstBroken (s .pre .0 .contents .setting .net) (half s)) none (told-first (c .before .before .before .before)) in
     for-all s _ (subst (Judges (s .pre .0 .contents .setting) (half s)) (sym (c .plain3 .ensures)) (proof-so (s .pre .0 .contents .setting) (half s) (started (c .before .before .before .before .before .before .before .before .before)) (apart-from (c .before .before .before .before .before .before)) f))
 
 sub-behind-transitions : tie.Need-sub-behind-transitions
