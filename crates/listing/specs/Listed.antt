@@ -14,7 +14,7 @@ use Rattle.format.specs.Contents.{Contents, halfSpace, claim}
 use Rattle.reader.specs.declared.Check.{Check}
 use Rattle.reader.specs.declared.Check.the-variants.{Fine, Refused}
 use Rattle.twins.specs.Answers.{IsTwinNumber}
-use Rattle.listing.specs.Lines.{claimLine, countsLine, refusalLine}
+use Rattle.lines.specs.Lines.{claimLine, countsLine, refusalLine}
 use Rattle.listing.specs.declared.Listed.{Listed}
 use Rattle.listing.specs.declared.Listed.the-variants as listed
 

@@ -11,9 +11,6 @@ ghost use Rattle.lent.specs.Wiped.{Wiped};
 ghost use Rattle.pairs.specs.Pairs.{areaAfter};
 ghost use Rattle.text.specs.Bytes.{Wrote};
 ghost use Rattle.listing.specs.Listed.{IsLine, IsListing, IsListed, IsRefusalText, roomCheck, listingCheck, passedListed};
-
-mod lines; // lines.rt: the lines of a listing
-
 use lent::wipe;
 use lines::claim_line;
 use lines::counts_line;

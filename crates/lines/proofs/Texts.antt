@@ -7,7 +7,7 @@ use lib.ListN.{length, length-append, getD, take}
 use lib.Seq.{take-suc}
 use Rattle.text.specs.Bytes.{chars, decimal}
 use Rattle.text.proofs.Decimal.{decimal-short}
-use Rattle.listing.specs.Lines.{tokensText}
+use Rattle.lines.specs.Lines.{tokensText}
 
 pub tokens-more : (xs : List ℕ) (m : ℕ) → tokensText (xs ++ (m ∷ [])) ≡ tokensText xs ++ (chars " " ++ decimal m)
 unfolding tokensText
@@ -21,3 +21,6 @@ tokens-next ms p l =
 
 pub one-short : (m : ℕ) → m < 65536 → length (decimal m) ≤ 5
 one-short m l = decimal-short 4 m (omega arith)
+
+pub two-digits : (n : ℕ) → n < 100 → length (decimal n) ≤ 2
+two-digits n l = decimal-short 1 n l

@@ -3,7 +3,7 @@ ghost use mathlib.Core.List.{_++_};
 ghost use Prim.Native.Nat.{_+_, _≤_, _<_};
 ghost use lib.ListN.{length, take};
 ghost use Rattle.text.specs.Bytes.{Wrote, chars, decimal};
-ghost use Rattle.listing.specs.Lines.{countsLine, refusedLine, tokensText, twinText, answerText, answerLine, Brief};
+ghost use Rattle.lines.specs.Lines.{countsLine, refusedLine, tokensText, twinText, answerText, answerLine, Brief};
 use reader::Counts;
 use terms::Place;
 use text::labelled;

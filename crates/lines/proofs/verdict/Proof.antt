@@ -7,11 +7,11 @@ use lib.ListN.{length, take}
 use Rattle.text.specs.Bytes.{Wrote, chars, decimal}
 use Rattle.text.proofs.Writing.{wrote-then, wrote-nothing}
 use Rattle.verdicts.specs.declared.Answer.{Answer}
-use Rattle.listing.specs.Lines.{tokensText, answerText, Brief}
-use Rattle.listing.proofs.Lined.{two-digits}
+use Rattle.lines.specs.Lines.{tokensText, answerText, Brief}
+use Rattle.lines.proofs.Texts.{two-digits}
 use borrow.Author.Needs.{needs}
-use Rattle.listing.proofs.lines.verdict.Statement.{statement}
-use Rattle.listing.proofs.lines.verdict.Tie as tie
+use Rattle.lines.proofs.verdict.Statement.{statement}
+use Rattle.lines.proofs.verdict.Tie as tie
 
 enum-told : tie.Need-enum-told
 enum-told c = search needs

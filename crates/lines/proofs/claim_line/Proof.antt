@@ -6,11 +6,11 @@ use native.Mathlib.Omega.{arith}
 use lib.ListN.{length, take}
 use Rattle.text.specs.Bytes.{chars, decimal}
 use Rattle.text.proofs.Writing.{wrote-then}
-use Rattle.listing.specs.Lines.{newline, answerText, twinText}
-use Rattle.listing.proofs.Lined.{two-digits}
+use Rattle.lines.specs.Lines.{newline, answerText, twinText}
+use Rattle.lines.proofs.Texts.{two-digits}
 use borrow.Author.Needs.{needs}
-use Rattle.listing.proofs.lines.claim_line.Statement.{statement}
-use Rattle.listing.proofs.lines.claim_line.Tie as tie
+use Rattle.lines.proofs.claim_line.Statement.{statement}
+use Rattle.lines.proofs.claim_line.Tie as tie
 
 slice-aggregate-labelled : tie.Need-slice-aggregate-labelled
 slice-aggregate-labelled c = search needs

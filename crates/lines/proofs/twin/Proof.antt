@@ -6,11 +6,11 @@ use native.Mathlib.Omega.{arith}
 use lib.ListN.{length}
 use Rattle.text.specs.Bytes.{Wrote, chars, decimal}
 use Rattle.text.proofs.Writing.{wrote-nothing}
-use Rattle.listing.specs.Lines.{twinText}
-use Rattle.listing.proofs.Lined.{two-digits}
+use Rattle.lines.specs.Lines.{twinText}
+use Rattle.lines.proofs.Texts.{two-digits}
 use borrow.Author.Needs.{needs}
-use Rattle.listing.proofs.lines.twin.Statement.{statement}
-use Rattle.listing.proofs.lines.twin.Tie as tie
+use Rattle.lines.proofs.twin.Statement.{statement}
+use Rattle.lines.proofs.twin.Tie as tie
 
 some : (j : ℕ) → (j ≡ 0 → ⊥) → twinText j ≡ chars " twin " ++ decimal j
 some zero l = absurd (l refl)

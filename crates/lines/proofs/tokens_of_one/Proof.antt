@@ -1,9 +1,9 @@
 -- `lines::tokens_of_one` meets its contract: five digits are enough for 65,535.
 use native.Mathlib.Omega.{arith}
-use Rattle.listing.proofs.Texts.{one-short}
+use Rattle.lines.proofs.Texts.{one-short}
 use borrow.Author.Needs.{needs}
-use Rattle.listing.proofs.lines.tokens_of_one.Statement.{statement}
-use Rattle.listing.proofs.lines.tokens_of_one.Tie as tie
+use Rattle.lines.proofs.tokens_of_one.Statement.{statement}
+use Rattle.lines.proofs.tokens_of_one.Tie as tie
 
 slice-aggregate-labelled : tie.Need-slice-aggregate-labelled
 slice-aggregate-labelled c = search needs

@@ -6,13 +6,13 @@ use native.Mathlib.Omega.{arith}
 use lib.ListN.{length, take, getD, length-append}
 use Rattle.text.specs.Bytes.{chars, decimal, Wrote}
 use Rattle.text.proofs.Writing.{wrote-then, wrote-nothing}
-use Rattle.listing.specs.Lines.{tokensText}
-use Rattle.listing.proofs.Texts.{tokens-next, one-short}
+use Rattle.lines.specs.Lines.{tokensText}
+use Rattle.lines.proofs.Texts.{tokens-next, one-short}
 use borrow.Author.Needs.{needs}
 use mir.Syntax.{w16}
 use borrow.Kind.Array.{eInt, good-length}
-use Rattle.listing.proofs.lines.tokens.Statement.{statement}
-use Rattle.listing.proofs.lines.tokens.Tie as tie
+use Rattle.lines.proofs.tokens.Statement.{statement}
+use Rattle.lines.proofs.tokens.Tie as tie
 
 no-tokens : [] ≡ tokensText []
 unfolding tokensText

@@ -7,10 +7,10 @@ use lib.ListN.{length}
 use Rattle.text.specs.Bytes.{chars, decimal}
 use Rattle.text.proofs.Writing.{wrote-then}
 use Rattle.text.proofs.Decimal.{decimal-short}
-use Rattle.listing.specs.Lines.{newline}
+use Rattle.lines.specs.Lines.{newline}
 use borrow.Author.Needs.{needs}
-use Rattle.listing.proofs.lines.refusal_line.Statement.{statement}
-use Rattle.listing.proofs.lines.refusal_line.Tie as tie
+use Rattle.lines.proofs.refusal_line.Statement.{statement}
+use Rattle.lines.proofs.refusal_line.Tie as tie
 
 three : (c : tie.Start) → length (decimal (c .args .number)) ≤ 3
 three c = decimal-short 2 (c .args .number) (omega (arith, c .fits .number))

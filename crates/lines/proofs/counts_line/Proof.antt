@@ -6,10 +6,10 @@ use native.Mathlib.Omega.{arith}
 use lib.ListN.{length, length-append}
 use Rattle.text.specs.Bytes.{chars, decimal}
 use Rattle.text.proofs.Writing.{wrote-then}
-use Rattle.listing.specs.Lines.{newline}
+use Rattle.lines.specs.Lines.{newline}
 use borrow.Author.Needs.{needs}
-use Rattle.listing.proofs.lines.counts_line.Statement.{statement}
-use Rattle.listing.proofs.lines.counts_line.Tie as tie
+use Rattle.lines.proofs.counts_line.Statement.{statement}
+use Rattle.lines.proofs.counts_line.Tie as tie
 
 room : (c : tie.Start) → c .args .at + 29 + length (decimal (c .args .counts .places)) + length (decimal (c .args .counts .transitions)) + length (decimal (c .args .counts .claims)) ≤ length (c .args .text .now)
 room c =
