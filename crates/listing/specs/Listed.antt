@@ -2,7 +2,7 @@
 use mathlib.Core.Path.{_≡_}
 use mathlib.Core.Bool.{Bool, true, false}
 use mathlib.Core.List.{List, [], _∷_, _++_}
-use Prim.Native.Nat.{ℕ, zero, suc, _+_}
+use Prim.Native.Nat.{ℕ, zero, suc, _+_, _≤_}
 use lib.ListN.{length, drop}
 use lib.Dec.{leb}
 use Rattle.terms.specs.Limits.{areasFit, textSize}
@@ -66,3 +66,13 @@ RefusalWritten false q old new r = (r ≡ listed.Refused smallText) × (new ≡ 
 
 abbrev pub IsRefusalText : Refusal → List ℕ → List ℕ → Listed → Type 0
 IsRefusalText q old new r = RefusalWritten (leb textSize (length old)) q old new r
+
+-- what judge prints: a sound sheet's listing, or the line of the sheet's refusal
+abbrev pub IsPage : Read Contents → List ℕ → Type 0
+IsPage (sound x) text = IsListing x text
+IsPage (refused q) text = text ≡ refusalLine q
+
+-- the first n bytes of an area were written, and behind them it is as it was
+pub record Starts (n : ℕ) (old new : List ℕ) : Type 0 where
+  pub within : n ≤ length new
+  pub behind : drop n new ≡ drop n old
