@@ -160,7 +160,7 @@ fn refusal_page(r: Refusal, text: &mut [u8]) -> usize
     ensures { λ n. ⌜ Starts n (now (text .entry)) (now (text .exit)) ⌝ }
 {
     match refusal_text(r, text) {
-        Listed::Written(n) => n,
+        Listed::Written(end) => end,
         Listed::Refused(_) => 0,
     }
 }

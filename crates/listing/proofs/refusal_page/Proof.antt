@@ -7,8 +7,8 @@ use Rattle.listing.proofs.refusal_page.Tie as tie
 refusal-text-requires : tie.Need-refusal-text-requires
 refusal-text-requires c κs = search needs
 
-enum-known-n : tie.Need-enum-known-n
-enum-known-n c = search needs
+enum-known-end : tie.Need-enum-known-end
+enum-known-end c = search needs
 
 enum-told : tie.Need-enum-told
 enum-told c = search needs
@@ -20,7 +20,7 @@ returns : tie.Need-returns
 returns c =
     let s = c .before .before .before .before .before .before .before .before in
     let w = c .before .before .before .before .before .refusal-text in
-    line-there (s .args .r) (s .args .text .now) (w .last .1 .0) (w .result) (s .pre) (w .ensures) (c .before .n .given .0 .0) (c .before .n .given .1)
+    line-there (s .args .r) (s .args .text .now) (w .last .1 .0) (w .result) (s .pre) (w .ensures) (c .before .end .given .0 .0) (c .before .end .given .1)
 
 same-length-2 : tie.Need-same-length-2
 same-length-2 c = search needs
@@ -36,7 +36,7 @@ refusal-page-spec =
     tie.close
     (tie.spec
     refusal-text-requires
-    enum-known-n
+    enum-known-end
     enum-told
     same-length
     returns
