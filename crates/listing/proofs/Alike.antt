@@ -17,8 +17,8 @@ use Rattle.reader.specs.declared.Check.the-variants.{Fine, Refused}
 use Rattle.twins.proofs.OneAnswer.{one-number}
 use Rattle.lines.specs.Lines.{claimLine}
 use Rattle.listing.specs.declared.Listed.{Listed}
-use Rattle.listing.specs.Listed.{IsLine, AreLines, IsListing, IsListed, Lists, IsPage, IsRefusalText, RefusalWritten, roomCheck}
-use Rattle.listing.specs.Alike.{LineAlike, LinesAlike, Alike, Unbroken, PagesAlike, AnswersAlike, both-refused, both-listed, countsOfSheet}
+use Rattle.listing.specs.Listed.{IsLine, AreLines, IsListing, IsListed, Lists, IsPage, IsRefusalText, RefusalWritten, roomCheck, countsOfSheet}
+use Rattle.listing.specs.Alike.{LineAlike, LinesAlike, Alike, Unbroken, PagesAlike, AnswersAlike, both-refused, both-listed}
 
 module _ (x : Contents) where
   line-alike : (i : ℕ) (a b : List ℕ) → IsLine x i a → IsLine x i b → LineAlike i a b

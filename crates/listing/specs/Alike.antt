@@ -8,9 +8,10 @@ use Rattle.nets.specs.Nets.{Marking}
 use Rattle.nets.specs.Verdicts.{Verdict, broken, IsVerdict, SameBut}
 use Rattle.format.specs.Read.{Read, sound, refused}
 use Rattle.format.specs.Contents.{Contents, halfSpace, claim}
-use Rattle.lines.specs.Lines.{claimLine, countsLine}
+use Rattle.lines.specs.Lines.{claimLine}
 use Rattle.listing.specs.declared.Listed.{Listed}
 use Rattle.listing.specs.declared.Listed.the-variants as listed
+use Rattle.listing.specs.Listed.{countsOfSheet}
 
 -- two lines of claim i: one verdict, but for the bad marking, and one twin
 pub record LineAlike (i : ℕ) (line other : List ℕ) : Type 0 where
@@ -26,10 +27,7 @@ unfoldable pub LinesAlike : ℕ → List ℕ → List ℕ → Type 0
 LinesAlike zero text other = (text ≡ []) × (other ≡ [])
 LinesAlike (suc i) text other = (before : List ℕ) × (line : List ℕ) × (before-too : List ℕ) × (line-too : List ℕ) × LinesAlike i before before-too × LineAlike (suc i) line line-too × (text ≡ before ++ line) × (other ≡ before-too ++ line-too)
 
--- the sheet's line of counts
-abbrev pub countsOfSheet : Contents → List ℕ
-countsOfSheet x = countsLine (x .setting .net .places) (length (x .setting .net .transitions)) (length (x .claims))
-
+-- the same line of counts, and lines that are alike
 pub record Alike (x : Contents) (text other : List ℕ) : Type 0 where
   pub lines : List ℕ
   pub other-lines : List ℕ

@@ -31,11 +31,15 @@ unfoldable pub AreLines : Contents → ℕ → List ℕ → Type 0
 AreLines x zero text = text ≡ []
 AreLines x (suc i) text = (before : List ℕ) × (line : List ℕ) × AreLines x i before × IsLine x (suc i) line × (text ≡ before ++ line)
 
+-- the sheet's line of counts
+abbrev pub countsOfSheet : Contents → List ℕ
+countsOfSheet x = countsLine (x .setting .net .places) (length (x .setting .net .transitions)) (length (x .claims))
+
 -- the line of counts, and a line for each claim
 pub record IsListing (x : Contents) (text : List ℕ) : Type 0 where
   pub lines : List ℕ
   pub are : AreLines x (length (x .claims)) lines
-  pub is : text ≡ countsLine (x .setting .net .places) (length (x .setting .net .transitions)) (length (x .claims)) ++ lines
+  pub is : text ≡ countsOfSheet x ++ lines
 
 -- the refusals in their order: the sheet's, 13 for a work area, 19 for the text's
 abbrev pub roomCheck : ℕ → ℕ → ℕ → Check
