@@ -4,13 +4,12 @@ ghost use mathlib.Core.List.{List};
 ghost use Prim.Native.Nat.{ℕ, _≤_};
 ghost use lib.ListN.{length, take};
 ghost use Rattle.format.specs.Reading.{reading};
-ghost use Rattle.listing.specs.Listed.{IsListed};
+ghost use Rattle.listing.specs.Listed.{IsPage};
 ghost use Rattle.judge.specs.Input.{Within};
 use libc::STDERR_FILENO;
 use libc::STDIN_FILENO;
-use listing::Listed;
-use listing::listing_of;
-use printing::print;
+use libc::STDOUT_FILENO;
+use listing::page;
 use terms::Area;
 
 // How much was taken in, at the start of the room that was lent.
@@ -38,19 +37,24 @@ fn take_in(room: &mut [u8]) -> Input
     Input::Kept(done)
 }
 
-// The listing for every input that begins with what was kept: a sheet's listing depends on its first 2,891 bytes alone.
-fn listing(kept: &[u8], marks: &mut [u8], queue: &mut [u16], text: &mut [u8]) -> Listed
-    ensures { λ r. ⌜ ((s : List ℕ) → take 4096 s ≡ now (kept .entry) → IsListed (reading s) (length (now (marks .entry))) (length (now (queue .entry))) (now (text .entry)) (now (text .exit)) r) ⌝ }
+// What is printed for every input that begins with what was kept: a sheet's page depends on its first 2,891 bytes alone.
+fn page_of(kept: &[u8], marks: &mut [u8], queue: &mut [u16], text: &mut [u8]) -> usize
+    requires { ⌜ length (now kept) ≤ 4096 ⌝ }
+    requires { ⌜ (20000 ≤ length (now marks)) × (20000 ≤ length (now queue)) × (4096 ≤ length (now text)) ⌝ }
+    ensures { λ n. ⌜ ((s : List ℕ) → take 4096 s ≡ now (kept .entry) → IsPage (reading s) (take n (now (text .exit)))) ⌝ }
+    ensures { λ n. ⌜ n ≤ length (now (text .exit)) ⌝ }
 {
-    listing_of(kept, marks, queue, text)
+    page(kept, marks, queue, text)
 }
 
-fn show(kept: &[u8]) {
+fn show(kept: &[u8])
+    requires { ⌜ length (now kept) ≤ 4096 ⌝ }
+{
     let mut marks = [0u8; Area::SIZE];
     let mut queue = [0u16; Area::SIZE];
     let mut text = io::buffer();
-    let answer = listing(kept, &mut marks, &mut queue, &mut text);
-    print(answer, &mut text);
+    let n = page_of(kept, &mut marks, &mut queue, &mut text);
+    io::write_all(STDOUT_FILENO, &text[..n]);
 }
 
 fn main() {

@@ -1,2 +1,3 @@
-pub mod Texts
 pub mod Lined
+pub mod Paged
+pub mod Alike

@@ -20,15 +20,10 @@ use Rattle.reader.specs.declared.Check.the-variants.{Fine}
 use Rattle.sheet.specs.Known.{Known}
 use Rattle.pairs.proofs.Order.{held-so, both-fit}
 use Rattle.sheet.proofs.Known.{limits, formed-transition, transitions-count}
-use Rattle.text.specs.Bytes.{decimal}
-use Rattle.text.proofs.Decimal.{decimal-short}
 use Rattle.verdicts.specs.Judged.{judgedOf}
 use Rattle.twins.specs.Answers.{IsTwinNumber}
-use Rattle.listing.specs.Lines.{answerText, verdictText, Brief}
+use Rattle.lines.specs.Lines.{answerText, verdictText, Brief}
 use Rattle.listing.specs.Listed.{IsLine, AreLines, roomCheck}
-
-pub two-digits : (n : ℕ) → n < 100 → length (decimal n) ≤ 2
-two-digits n l = decimal-short 1 n l
 
 module _ (s : List ℕ) (k : Counts) (q : Known s k) where
   pub twin-small : (i j : ℕ) → i ≤ k .claims → IsTwinNumber (q .contents) i j → j < 100

@@ -2,7 +2,7 @@
 ghost use mathlib.Core.Path.{_≡_};
 ghost use mathlib.Core.List.{List};
 ghost use Prim.Native.Nat.{ℕ, _+_, _≤_};
-ghost use lib.ListN.{length};
+ghost use lib.ListN.{length, take};
 ghost use Rattle.format.specs.Read.{sound};
 ghost use Rattle.format.specs.Contents.{Contents};
 ghost use Rattle.format.specs.Reading.{reading};
@@ -10,10 +10,8 @@ ghost use Rattle.sheet.specs.Known.{Known};
 ghost use Rattle.lent.specs.Wiped.{Wiped};
 ghost use Rattle.pairs.specs.Pairs.{areaAfter};
 ghost use Rattle.text.specs.Bytes.{Wrote};
-ghost use Rattle.listing.specs.Listed.{IsLine, IsListing, IsListed, IsRefusalText, roomCheck, listingCheck, passedListed};
-
-mod lines; // lines.rt: the lines of a listing
-
+ghost use Rattle.lines.specs.Lines.{refusalLine};
+ghost use Rattle.listing.specs.Listed.{IsLine, IsListing, IsListed, IsRefusalText, IsPage, Starts, roomCheck, listingCheck, passedListed};
 use lent::wipe;
 use lines::claim_line;
 use lines::counts_line;
@@ -153,4 +151,30 @@ pub fn refusal_text(r: Refusal, text: &mut [u8]) -> Listed
     let detail = r.value();
     let end = refusal_line(text, 0, number, detail);
     Listed::Written(end)
+}
+
+// The line of a refusal in a text that is long enough.
+fn refusal_page(r: Refusal, text: &mut [u8]) -> usize
+    requires { ⌜ 4096 ≤ length (now text) ⌝ }
+    ensures { λ n. ⌜ take n (now (text .exit)) ≡ refusalLine r ⌝ }
+    ensures { λ n. ⌜ Starts n (now (text .entry)) (now (text .exit)) ⌝ }
+{
+    match refusal_text(r, text) {
+        Listed::Written(end) => end,
+        Listed::Refused(_) => 0,
+    }
+}
+
+// What a program prints of a sheet, at the start of the text: the listing, or the line of the refusal.
+pub fn page(sheet: &[u8], marks: &mut [u8], queue: &mut [u16], text: &mut [u8]) -> usize
+    requires { ⌜ (20000 ≤ length (now marks)) × (20000 ≤ length (now queue)) × (4096 ≤ length (now text)) ⌝ }
+    ensures { λ n. ⌜ IsPage (reading (now (sheet .entry))) (take n (now (text .exit))) ⌝ }
+    ensures { λ n. ⌜ Starts n (now (text .entry)) (now (text .exit)) ⌝ }
+    ensures { λ _. ⌜ now (marks .exit) ≡ areaAfter (listingCheck (reading (now (sheet .entry))) (length (now (marks .entry))) (length (now (queue .entry))) (length (now (text .entry)))) (now (marks .entry)) ⌝ }
+    ensures { λ _. ⌜ now (queue .exit) ≡ areaAfter (listingCheck (reading (now (sheet .entry))) (length (now (marks .entry))) (length (now (queue .entry))) (length (now (text .entry)))) (now (queue .entry)) ⌝ }
+{
+    match listing_of(sheet, marks, queue, text) {
+        Listed::Written(n) => n,
+        Listed::Refused(r) => refusal_page(r, text),
+    }
 }

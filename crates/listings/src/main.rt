@@ -1,7 +1,8 @@
 // listings: for the tests. Standard input has many sheets, each behind its length (two bytes, the low one first). Each is listed as
 // judge lists it, with a line of a dot behind it.
-use listing::listing_of;
-use printing::print;
+ghost use Prim.Native.Nat.{_≤_};
+ghost use lib.ListN.{length};
+use listing::page;
 use terms::Area;
 
 const STDIN: i32 = 0;
@@ -13,20 +14,26 @@ fn two_bytes(lo: u8, hi: u8) -> usize {
     (lo as usize) + 256 * (hi as usize)
 }
 
-fn list(sheet: &[u8], marks: &mut [u8], queue: &mut [u16], text: &mut [u8]) {
-    let answer = listing_of(sheet, marks, queue, text);
-    print(answer, text);
+fn list(sheet: &[u8], marks: &mut [u8], queue: &mut [u16], text: &mut [u8])
+    requires { ⌜ (20000 ≤ length (now marks)) × (20000 ≤ length (now queue)) × (4096 ≤ length (now text)) ⌝ }
+{
+    let n = page(sheet, marks, queue, text);
+    io::write_all(STDOUT, &text[..n]);
     io::write_all(STDOUT, b".\n");
 }
 
 // Reads the sheet into the room and lists it.
-fn take_in(room: &mut [u8], marks: &mut [u8], queue: &mut [u16], text: &mut [u8]) {
+fn take_in(room: &mut [u8], marks: &mut [u8], queue: &mut [u16], text: &mut [u8])
+    requires { ⌜ (20000 ≤ length (now marks)) × (20000 ≤ length (now queue)) × (4096 ≤ length (now text)) ⌝ }
+{
     let n = io::read_full(STDIN, room);
     list(&room[..n], marks, queue, text);
 }
 
 // Lists one sheet, and says whether there was one.
-fn next_sheet(room: &mut [u8], marks: &mut [u8], queue: &mut [u16], text: &mut [u8]) -> bool {
+fn next_sheet(room: &mut [u8], marks: &mut [u8], queue: &mut [u16], text: &mut [u8]) -> bool
+    requires { ⌜ (20000 ≤ length (now marks)) × (20000 ≤ length (now queue)) × (4096 ≤ length (now text)) ⌝ }
+{
     let mut head = [0u8; 2];
     let came = io::read_full(STDIN, &mut head);
     if came < 2 {

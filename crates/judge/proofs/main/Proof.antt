@@ -1,5 +1,6 @@
 -- `main` is safe and ends: what was taken in lies within the room.
 use mathlib.Core.Path.{subst, sym}
+use native.Mathlib.Omega.{arith}
 use lib.ListN.{length}
 use lib.Seq.{length-take-le}
 use Rattle.judge.specs.declared.Input.{Input}
@@ -31,7 +32,8 @@ slice-aggregate-show : tie.Need-slice-aggregate-show
 slice-aggregate-show c = sym (length-take-le (c .before .before .n .given .0 .0) (c .before .before .before .before .before .take-in .last .0) (within (c .before)))
 
 show-requires : tie.Need-show-requires
-show-requires c κs = search needs
+show-requires c κs =
+    omega (arith, slice-aggregate-show c, within (c .before), c .before .before .before .before .before .take-in .kept .0)
 
 enum-told : tie.Need-enum-told
 enum-told c = search needs

@@ -12,9 +12,10 @@ use Rattle.sheet.specs.Known.{Known}
 use Rattle.sheet.proofs.Known.{same-contents, limits}
 use Rattle.text.specs.Bytes.{Wrote, chars, decimal}
 use Rattle.text.proofs.Writing.{wrote-then, wrote-nothing}
-use Rattle.listing.specs.Lines.{newline, countsLine}
+use Rattle.lines.specs.Lines.{newline, countsLine}
 use Rattle.listing.specs.Listed.{IsLine, AreLines, IsListing}
-use Rattle.listing.proofs.Lined.{two-digits, lines-next, lines-none, both-ways}
+use Rattle.lines.proofs.Texts.{two-digits}
+use Rattle.listing.proofs.Lined.{lines-next, lines-none, both-ways}
 use borrow.Author.Needs.{needs}
 use Rattle.listing.proofs.all_lines.Statement.{statement}
 use Rattle.listing.proofs.all_lines.Tie as tie

@@ -6,7 +6,7 @@ use lib.ListN.{length}
 use borrow.Author.Tests.{lt-leb, le-leb}
 use Rattle.text.specs.Bytes.{Wrote}
 use Rattle.text.proofs.Writing.{length-written, whole}
-use Rattle.listing.specs.Lines.{refusedLine, refusalLine}
+use Rattle.lines.specs.Lines.{refusedLine, refusalLine}
 use Rattle.listing.specs.declared.Listed.the-variants as listed
 use borrow.Author.Needs.{needs}
 use Rattle.listing.proofs.refusal_text.Statement.{statement}
