@@ -1,14 +1,12 @@
 -- What is printed, over areas that are long enough: a listing that was written is the page, and a refusal's line is otherwise.
-use mathlib.Core.Path.{_≡_, refl, sym, ap, _∙_, subst}
+use mathlib.Core.Path.{_≡_, sym, ap, _∙_, subst}
 use mathlib.Core.Bool.{Bool, true}
 use mathlib.Core.List.{List, _++_}
 use Prim.Native.Nat.{ℕ, _≤_}
 use native.Mathlib.Omega.{arith}
 use lib.ListN.{length, take, drop, length-append}
 use lib.Seq.{take-at, drop-at}
-use lib.Dec.{leb}
 use borrow.Author.Tests.{le-leb}
-use Rattle.terms.specs.Limits.{areasFit}
 use Rattle.terms.specs.declared.Refusal.{Refusal}
 use Rattle.format.specs.Read.{Read, sound, refused}
 use Rattle.format.specs.Contents.{Contents}

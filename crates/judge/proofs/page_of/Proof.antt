@@ -1,6 +1,5 @@
 -- `page_of` meets its contract: the kept part reads as any input that begins with it.
-use mathlib.Core.Path.{_≡_, ap, sym, _∙_, subst}
-use Prim.Native.Nat.{ℕ}
+use mathlib.Core.Path.{ap, sym, _∙_, subst}
 use lib.Dec.{lit≤}
 use lib.ListN.{take}
 use Rattle.format.specs.Read.{Read}

@@ -1,5 +1,5 @@
--- `page` meets its contract: the areas are long enough, so that only the sheet is refused, and then its line is written over nothing.
-use mathlib.Core.Path.{_≡_, sym, _∙_, subst}
+-- `page` meets its contract: the areas are long enough, so that only the sheet is refused, and its line then goes into the text as it was.
+use mathlib.Core.Path.{_≡_, sym, subst}
 use mathlib.Core.List.{List}
 use Prim.Native.Nat.{ℕ}
 use lib.ListN.{length, take}
