@@ -19,7 +19,7 @@ use Rattle.sheet.specs.Known.{Known}
 use Rattle.sheet.proofs.Filled.{length-signed}
 use Rattle.sheet.proofs.Taken.{most, weights-fit, weights-taken, claim-fits, claim-taken, start-fits, start-taken, target-fits, target-taken, tc-is, c-is}
 
-all-at : {A : Type 0} (P : A → Type 0) (d : A) (xs : List A) (i : ℕ) → i < length xs → All P xs → P (getD xs i d)
+pub all-at : {A : Type 0} (P : A → Type 0) (d : A) (xs : List A) (i : ℕ) → i < length xs → All P xs → P (getD xs i d)
 unfolding All
 all-at P d [] i l a = absurd (omega arith)
 all-at P d (x ∷ xs) zero l a = a .0
