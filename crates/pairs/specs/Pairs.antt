@@ -2,7 +2,7 @@
 use mathlib.Core.Path.{_≡_}
 use mathlib.Core.List.{List, [], _++_}
 use Prim.Native.Nat.{ℕ, _≤_}
-use lib.ListN.{length, drop, replicate}
+use lib.ListN.{drop, replicate}
 use Rattle.terms.specs.Limits.{among, areasFit, areaSize}
 use Rattle.terms.specs.Refusals.{notAClaim, notATransition, smallArea}
 use Rattle.terms.specs.declared.Claim.{Claim}

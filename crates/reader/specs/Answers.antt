@@ -1,6 +1,5 @@
 -- What the calls answer, over what the sheet is read as.
 use mathlib.Core.List.{List}
-use Prim.Native.Nat.{ℕ}
 use lib.ListN.{length}
 use Rattle.nets.specs.Verdicts.{Setting}
 use Rattle.format.specs.Read.{Read, sound, refused}

@@ -1,14 +1,14 @@
 -- What a sheet that was read holds, claim by claim and transition by transition, and that all of it is within the limits.
-use mathlib.Core.Path.{_≡_, refl, sym, ap, ap₂, _∙_, subst}
-use mathlib.Core.List.{List, [], _∷_, map}
+use mathlib.Core.Path.{_≡_, sym, ap, ap₂, _∙_, subst}
+use mathlib.Core.List.{List, [], _∷_}
 use Prim.Native.Nat.{ℕ, zero, suc, _+_, _-_, _*_, _≤_, _<_}
 use native.Mathlib.Omega.{arith}
 use lib.IntN.{ℤ, pos}
 use lib.ListN.{length, getD, take}
 use lib.Seq.{take-at}
 use Rattle.nets.specs.HalfSpaces.{HalfSpace, sixteen}
-use Rattle.nets.specs.Nets.{Transition, transition, none}
-use Rattle.format.specs.Read.{Read, sound}
+use Rattle.nets.specs.Nets.{transition, none}
+use Rattle.format.specs.Read.{sound}
 use Rattle.format.specs.Contents.{Contents, halfSpace, claim, no-claim}
 use Rattle.format.specs.Formed.{All, IsSheet, Formed, FormedClaim, FormedTransition}
 use Rattle.format.specs.Reading.{sizeOf, transitionIn, targetIn, claimIn, words, transitionSize, claimSize, transitionsFrom, targetFrom, claimsFrom, reading}
@@ -19,7 +19,7 @@ use Rattle.sheet.specs.Known.{Known}
 use Rattle.sheet.proofs.Filled.{length-signed}
 use Rattle.sheet.proofs.Taken.{most, weights-fit, weights-taken, claim-fits, claim-taken, start-fits, start-taken, target-fits, target-taken, tc-is, c-is}
 
-all-at : {A : Type 0} (P : A → Type 0) (d : A) (xs : List A) (i : ℕ) → i < length xs → All P xs → P (getD xs i d)
+pub all-at : {A : Type 0} (P : A → Type 0) (d : A) (xs : List A) (i : ℕ) → i < length xs → All P xs → P (getD xs i d)
 unfolding All
 all-at P d [] i l a = absurd (omega arith)
 all-at P d (x ∷ xs) zero l a = a .0

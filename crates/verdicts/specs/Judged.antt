@@ -1,6 +1,6 @@
 -- The verdict call: demand 3 and document 01, "Half spaces and verdicts", "Numbers that say no".
 use mathlib.Core.Path.{_≡_}
-use mathlib.Core.List.{List, []}
+use mathlib.Core.List.{[]}
 use Prim.Native.Nat.{ℕ, zero, suc, _<_}
 use Rattle.terms.specs.Limits.{among, areasFit}
 use Rattle.terms.specs.Refusals.{notAClaim, smallArea}

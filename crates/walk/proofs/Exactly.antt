@@ -2,11 +2,11 @@
 use mathlib.Core.Path.{_≡_, refl, sym, ap, _∙_, subst}
 use mathlib.Core.Bool.{Bool, true, false}
 use mathlib.Core.Logic.{_↔_, _⊎_, inl, inr, ⊎-elim}
-use mathlib.Core.List.{List, [], _∷_}
+use mathlib.Core.List.{[], _∷_}
 use Prim.Native.Nat.{ℕ, zero, suc, _-_, _≤_, _<_}
 use native.Mathlib.Omega.{arith}
 use lib.Dec.{ltb}
-use lib.ListN.{length, getD, take, List·getD-eq-default}
+use lib.ListN.{length, take, List·getD-eq-default}
 use lib.Seq.{length-take-le}
 use borrow.Author.Tests.{le-leb, ltb-true, ltb-false}
 use Rattle.terms.specs.Limits.{among, mostTokens}
@@ -18,10 +18,11 @@ use Rattle.nets.specs.Nets.{_⊑_, Enabled, IsTransition, fire, none}
 use Rattle.nets.specs.Verdicts.{Setting}
 use Rattle.format.specs.Read.{sound, choose}
 use Rattle.format.specs.Contents.{Contents}
-use Rattle.format.specs.Formed.{All, FormedTransition, FormedSetting}
+use Rattle.format.specs.Formed.{FormedTransition, FormedSetting}
 use Rattle.format.proofs.Sound.{places-fit}
 use Rattle.reader.specs.declared.Check.{Check}
 use Rattle.reader.specs.declared.Check.the-variants.{Fine, Refused}
+use Rattle.sheet.proofs.Known.{all-at}
 use Rattle.sheet.proofs.Taken.{among-some}
 use Rattle.walk.specs.Walk.{first, isShort, isOver, lowestShort, lowestOver, firingChecks, stepOf}
 use Rattle.walk.specs.declared.Marking.{Marking}
@@ -57,12 +58,6 @@ one-lowest P p q a b =
 
 among-so : (i count : ℕ) → 1 ≤ i → i ≤ count → among i count ≡ true
 among-so i count l h = rw (le-leb 1 i l) (le-leb i count h)
-
-all-at : {A : Type 0} (P : A → Type 0) (d : A) (xs : List A) (i : ℕ) → i < length xs → All P xs → P (getD xs i d)
-unfolding All
-all-at P d [] i l a = absurd (omega arith)
-all-at P d (x ∷ xs) zero l a = a .0
-all-at P d (x ∷ xs) (suc i) l a = all-at P d xs i (omega arith) (a .1)
 
 -- A transition of a formed net has a weight for each place.
 pub weights-formed : (q : Setting) → FormedSetting q → (t : ℕ) → IsTransition (q .net) t → FormedTransition (q .net .places) (nets.transition (q .net) t)

@@ -7,7 +7,7 @@ use borrow.Author.Tests.{not-true, not-false}
 use lib.ListN.{length}
 use Rattle.nets.specs.Nets as nets
 use Rattle.nets.specs.HalfSpaces as spaces
-use Rattle.format.specs.Read.{Read, sound, refused}
+use Rattle.format.specs.Read.{Read}
 use Rattle.format.specs.Contents.{Contents, halfSpace, claim}
 use Rattle.format.specs.Reading.{reading}
 use Rattle.reader.specs.Answers.{IsMalformed, countsOf}

@@ -1,6 +1,6 @@
 -- `half_space_of` meets its contract: the sheet's refusal is passed on, then 11, and the numbers at the record of claim i are the claim's.
 use mathlib.Core.Path.{_≡_, _∙_, sym, ap, ap₂}
-use mathlib.Core.Bool.{Bool, true, false}
+use mathlib.Core.Bool.{true, false}
 use mathlib.Core.List.{List}
 use Prim.Native.Nat.{_≤_}
 use native.Mathlib.Omega.{arith}

@@ -22,6 +22,16 @@ behind-claims-requires c κs =
     let b = limits (s .args .sheet .now) (s .args .counts) (s .pre .0) in
     (b .0, b .1, omega (arith, b .2, s .pre .2))
 
+-- the numbers are those of claim i
+space-so : (c : tie.After-struct-told) → spaceOf (c .before .before .before .before .before .args .counts .places) (c .before .before .numbers-at .result .coefficients) (toZ w16 (ofZ w16 (c .before .before .numbers-at .result .constant))) ≡ halfSpace (claim (c .before .before .before .before .before .pre .0 .contents) (c .before .before .before .before .before .args .i))
+space-so c =
+    let s = c .before .before .before .before .before in
+    let a = s .args in
+    let b = c .before .before .before .behind-claims in
+    let h = c .before .before .numbers-at in
+    let fits : SFits w16 (h .result .constant) = search needs in
+    space-is (a .sheet .now) (a .counts) (s .pre .0) (a .i) (s .pre .1) (s .pre .2) (b .result) (b .ensures .0) (h .result .coefficients) (toZ w16 (ofZ w16 (h .result .constant))) (h .ensures .0) (toZ-ofZ fits ∙ h .ensures .1)
+
 numbers-at-requires : tie.Need-numbers-at-requires
 numbers-at-requires c κs =
     let s = c .before .before in
@@ -38,13 +48,9 @@ returns c =
     let s = c .before .before .before .before .before .before in
     let a = s .args in
     let q = s .pre .0 in
-    let b = c .before .before .before .before .behind-claims in
-    let h = c .before .before .before .numbers-at in
     let r = c .reduced in
-    let fits : SFits w16 (h .result .constant) = search needs in
-    let is : spaceOf (a .counts .places) (h .result .coefficients) (toZ w16 (ofZ w16 (h .result .constant))) ≡ halfSpace (claim (q .contents) (a .i)) = space-is (a .sheet .now) (a .counts) q (a .i) (s .pre .1) (s .pre .2) (b .result) (b .ensures .0) (h .result .coefficients) (toZ w16 (ofZ w16 (h .result .constant))) (h .ensures .0) (toZ-ofZ fits ∙ h .ensures .1) in
     let form : HalfSpace = spaceOf (a .counts .places) (r .result .coefficients) (r .result .constant) in (
-      λ y e. subst (λ (x : Contents). IsReduced (halfSpace (claim x (a .i))) form) (same-contents (a .sheet .now) (q .contents) y (q .is-read) e) (subst (λ (h : HalfSpace). IsReduced h form) is (r .ensures .0)),
+      λ y e. subst (λ (x : Contents). IsReduced (halfSpace (claim x (a .i))) form) (same-contents (a .sheet .now) (q .contents) y (q .is-read) e) (subst (λ (h : HalfSpace). IsReduced h form) (space-so (c .before)) (r .ensures .0)),
       r .ensures .1,
     )
 

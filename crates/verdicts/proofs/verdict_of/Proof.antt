@@ -1,10 +1,10 @@
 -- `verdict_of` meets its contract: the refusals come in their order, and what the core says of the claim is the answer.
-use mathlib.Core.Path.{_≡_, refl, _∙_, sym, ap, subst}
+use mathlib.Core.Path.{_≡_, _∙_, sym, ap, subst}
 use mathlib.Core.List.{List}
 use Prim.Native.Nat.{ℕ}
 use lib.ListN.{length}
-use Rattle.format.specs.Read.{Read, sound, refused}
-use Rattle.format.specs.Contents.{Contents, halfSpace, claim}
+use Rattle.format.specs.Read.{Read}
+use Rattle.format.specs.Contents.{Contents, claim}
 use Rattle.format.specs.Reading.{reading}
 use Rattle.reader.specs.Answers.{IsMalformed, countsOf}
 use Rattle.reader.specs.declared.Counts.{Counts}

@@ -1,16 +1,13 @@
 -- `records::head` meets its contract: its opening stops it, then n does, and then T decides.
-use mathlib.Core.Path.{_≡_, _∙_, sym, ap}
+use mathlib.Core.Path.{_≡_, _∙_, sym}
 use mathlib.Core.Bool.{true}
 use mathlib.Core.List.{List}
 use Prim.Native.Nat.{ℕ}
 use native.Mathlib.Omega.{arith}
 use lib.Dec.{leb}
 use borrow.Author.Tests.{le-leb, lt-leb}
-use Rattle.format.specs.Read.{Read, sound}
+use Rattle.format.specs.Read.{Read}
 use Rattle.format.specs.Reading.{byte, openedAt, headOf}
-use Rattle.reader.specs.Answers.{checked}
-use Rattle.reader.specs.declared.Check.{Check}
-use Rattle.reader.specs.declared.Check.the-variants.{Fine}
 use Rattle.reader.proofs.Checks.{fine, turned, opened-fits}
 use borrow.Author.Needs.{needs}
 use Rattle.reader.proofs.records.head.Statement.{statement}

@@ -1,13 +1,10 @@
 -- `space::judge_space` meets its contract: each question is asked once those before it were answered.
-use mathlib.Core.Path.{_≡_, refl, sym, ap, _∙_, subst}
-use mathlib.Core.Bool.{Bool, true, false}
+use mathlib.Core.Path.{_≡_, refl, sym, _∙_, subst}
+use mathlib.Core.Bool.{Bool, true}
 use mathlib.Core.List.{List}
-use Prim.Native.Nat.{ℕ, zero, suc, _+_, _*_, _-_, _≤_, _<_}
+use Prim.Native.Nat.{ℕ, zero, suc, _≤_}
 use native.Mathlib.Omega.{arith}
-use lib.ListN.{length, take}
-use lib.IntN.{ℤ}
-use mir.Syntax.{w16}
-use mir.Val.{toZ, ofZ}
+use lib.ListN.{take}
 use mir.Facts.{toZ-ofZ}
 use borrow.Author.Tests.{not-true, not-false}
 use Rattle.nets.specs.Nets as nets
@@ -23,7 +20,7 @@ use Rattle.pairs.specs.Crosses.{space, Crosses}
 use Rattle.pairs.proofs.Asking.{ready}
 use Rattle.verdicts.specs.declared.Answer.the-variants as answers
 use Rattle.verdicts.specs.declared.Judged.{Judged}
-use Rattle.verdicts.specs.Judged.{plainJudged, Judges, FirstBroken}
+use Rattle.verdicts.specs.Judged.{Judges, FirstBroken}
 use Rattle.verdicts.proofs.Order.{holds, fails, outside-so, target-so, proof-so, broken-so}
 use borrow.Author.Needs.{needs}
 use Rattle.verdicts.proofs.space.judge_space.Statement.{statement}
