@@ -22,6 +22,7 @@ from example_checks import check_examples
 from listing_comparison import compare_listings
 from library_checks import check_library
 from pair_tests import compare_pairs
+from promises_checks import check_promises
 from programs import BATCH_TIME_LIMIT, WORKERS, batches, framed, run
 from second.listing import check_listing
 from second_by_hand import check_second_program
@@ -106,6 +107,7 @@ def main() -> int:
     resource.setrlimit(resource.RLIMIT_AS, (MEMORY_LIMIT, MEMORY_LIMIT))
     check_tests_can_fail()
     return run_checks(
+        check_promises,
         check_second_program,
         check_verdicts_by_hand,
         check_walks_by_hand,
