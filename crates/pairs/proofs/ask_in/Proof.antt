@@ -51,6 +51,13 @@ behind-transitions-requires c κs =
     let b = limits (c .before .before .before .before .before .before .args .sheet .now) (c .before .before .before .before .before .before .args .counts) (q .known) in
     (b .0, omega (arith, b .1, q .most-transitions))
 
+-- the record is that of transition t
+record-so : (c : tie.After-behind-transitions) → transitionIn (c .before .before .before .before .before .before .before .args .sheet .now) (c .before .before .before .before .before .before .before .args .counts .places) (c .behind-transitions .result) ≡ nets.transition (c .before .before .before .before .before .before .before .pre .0 .known .contents .setting .net) (c .before .before .before .before .before .before .before .args .t)
+record-so c =
+    let a = c .before .before .before .before .before .before .before .args in
+    let q = c .before .before .before .before .before .before .before .pre .0 in
+    transition-is (a .sheet .now) (a .counts) (q .known) (a .t) (q .some-transition) (q .most-transitions) (c .behind-transitions .result) (c .behind-transitions .ensures .0)
+
 crossing-of-requires : tie.Need-crossing-of-requires
 crossing-of-requires c κs =
     let a = c .before .before .before .before .before .before .before .before .before .before .args in
@@ -73,7 +80,7 @@ returns c =
     let t = c .before .before .before .before .before .before .before .before .behind-transitions in
     λ y e.
     subst (λ (z : Contents). Crosses (halfSpace (claim z (a .i))) (nets.transition (z .setting .net) (a .t)) (r .result .hit) (r .result .marking)) (same-contents (a .sheet .now) (q .known .contents) y (q .known .is-read) e)
-    (subst (λ (u : nets.Transition). Crosses (halfSpace (claim (q .known .contents) (a .i))) u (r .result .hit) (r .result .marking)) (transition-is (a .sheet .now) (a .counts) (q .known) (a .t) (q .some-transition) (q .most-transitions) (t .result) (t .ensures .0))
+    (subst (λ (u : nets.Transition). Crosses (halfSpace (claim (q .known .contents) (a .i))) u (r .result .hit) (r .result .marking)) (record-so (c .before .before .before .before .before .before .before .before))
     (subst (λ (g : spaces.HalfSpace). Crosses g (transitionIn (a .sheet .now) (a .counts .places) (t .result)) (r .result .hit) (r .result .marking)) (space-so (c .before .before .before .before .before)) (r .ensures)))
 
 pub ask-in-spec : {M : Type 1} → statement M

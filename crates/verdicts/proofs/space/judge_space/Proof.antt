@@ -12,7 +12,7 @@ use Rattle.nets.specs.HalfSpaces as spaces
 use Rattle.nets.specs.Verdicts as setting
 use Rattle.format.specs.Contents.{Contents}
 use Rattle.format.specs.Read.{sound}
-use Rattle.format.specs.Reading.{reading}
+use Rattle.format.specs.Reading.{transitionIn, reading}
 use Rattle.format.proofs.ClaimRecord.{sheet-of}
 use Rattle.sheet.proofs.Known.{same-contents, limits, transition-is, start-whole, start-is, target-whole, target-is, transitions-count}
 use Rattle.residues.specs.Told.{Says}
@@ -131,6 +131,13 @@ behind-transitions-requires-2 c κs =
     let t = there s (c .before .before .before .first-broken .result) (c .if3 .left) (told-first (c .before .before .before)) in
     (b .0, omega (arith, b .1, t .1))
 
+-- the record is that of the transition that is named
+record-so : (c : tie.After-behind-transitions2) → transitionIn (c .before .before .before .before .before .before .before .before .before .before .before .before .before .before .before .args .sheet .now) (c .before .before .before .before .before .before .before .before .before .before .before .before .before .before .before .args .counts .places) (c .behind-transitions2 .result) ≡ nets.transition (c .before .before .before .before .before .before .before .before .before .before .before .before .before .before .before .pre .0 .contents .setting .net) (c .before .before .before .before .first-broken .result)
+record-so c =
+    let s = c .before .before .before .before .before .before .before .before .before .before .before .before .before .before .before in
+    let t = there s (c .before .before .before .before .first-broken .result) (c .before .if3 .left) (told-first (c .before .before .before .before)) in
+    transition-is (s .args .sheet .now) (s .args .counts) (s .pre .0) (c .before .before .before .before .first-broken .result) (t .0) (t .1) (c .behind-transitions2 .result) (c .behind-transitions2 .ensures .0)
+
 crossing-of-requires : tie.Need-crossing-of-requires
 crossing-of-requires c κs =
     let s = c .before .before .before .before .before .before .before .before .before .before .before .before .before .before .before .before .before in
@@ -151,9 +158,8 @@ returns-4 c =
     let a = s .args in
     let q = s .pre .0 in
     let first = c .before .before .before .before .before .before .before .before .before .before .before .before .first-broken .result in
-    let t = there s first (c .before .before .before .before .before .before .before .before .before .if3 .left) (told-first (c .before .before .before .before .before .before .before .before .before .before .before .before)) in
     let r = c .before .before .before .before .before .crossing-of in
-    let is = transition-is (a .sheet .now) (a .counts) q first (t .0) (t .1) (c .before .before .before .before .before .before .before .before .behind-transitions2 .result) (c .before .before .before .before .before .before .before .before .behind-transitions2 .ensures .0) in
+    let is = record-so (c .before .before .before .before .before .before .before .before) in
     let crosses = subst (λ (u : nets.Transition). Crosses (half s) u (r .result .hit) (r .result .marking)) is (rw (toZ-ofZ (s .fits .c)) at (r .ensures)) in
     for-all s _ (broken-at (q .contents .setting) (half s) (started (c .before .before .before .before .before .before .before .before .before .before .before .before .before .before .before .before .before)) (apart-from (c .before .before .before .before .before .before .before .before .before .before .before .before .before .before)) first (c .before .before .before .before .before .before .before .before .before .if3 .left) (r .result .hit) (r .result .marking) (told-first (c .before .before .before .before .before .before .before .before .before .before .before .before)) crosses)
 
