@@ -3,16 +3,12 @@
 ghost use Prim.Native.Nat.{_≤_};
 ghost use lib.ListN.{length};
 use listing::page;
+use sheet::rows::two_bytes;
 use terms::Area;
 
 const STDIN: i32 = 0;
 
 const STDOUT: i32 = 1;
-
-// Two bytes, the low one first.
-fn two_bytes(lo: u8, hi: u8) -> usize {
-    (lo as usize) + 256 * (hi as usize)
-}
 
 fn list(sheet: &[u8], marks: &mut [u8], queue: &mut [u16], text: &mut [u8])
     requires { ⌜ (20000 ≤ length (now marks)) × (20000 ≤ length (now queue)) × (4096 ≤ length (now text)) ⌝ }
@@ -39,7 +35,7 @@ fn next_sheet(room: &mut [u8], marks: &mut [u8], queue: &mut [u16], text: &mut [
     if came < 2 {
         return false;
     }
-    let length = two_bytes(head[0], head[1]);
+    let length = two_bytes(&head, 0) as usize;
     if room.len() < length {
         return false;
     }

@@ -9,17 +9,13 @@ use areas::fill16;
 use areas::left8;
 use areas::left16;
 use areas::sizes_of;
+use sheet::rows::two_bytes;
 use show::show_left;
 use show::show_pair;
 use terms::Claim;
 use terms::Transition;
 
 const STDIN: i32 = 0;
-
-// Two bytes, the low one first.
-fn two_bytes(lo: u8, hi: u8) -> usize {
-    (lo as usize) + 256 * (hi as usize)
-}
 
 // Asks about a sheet with areas that hold sevens, and shows the answer and what is left in the areas.
 fn ask(sheet: &[u8], i: usize, t: usize, marks: &mut [u8], queue: &mut [u16]) {
@@ -57,10 +53,10 @@ fn next_question(room: &mut [u8], marks: &mut [u8], queue: &mut [u16]) -> bool {
     if came < 7 {
         return false;
     }
-    let i = two_bytes(head[0], head[1]);
-    let t = two_bytes(head[2], head[3]);
+    let i = two_bytes(&head, 0) as usize;
+    let t = two_bytes(&head, 2) as usize;
     let sizes = sizes_of(head[4]);
-    let length = two_bytes(head[5], head[6]);
+    let length = two_bytes(&head, 5) as usize;
     if room.len() < length {
         return false;
     }

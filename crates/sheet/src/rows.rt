@@ -23,7 +23,7 @@ pub fn weights_from(s: &[u8], at: usize, n: usize) -> [u8; Place::MOST]
 }
 
 // A number of two bytes, the low byte first.
-fn two_bytes(s: &[u8], at: usize) -> u16
+pub fn two_bytes(s: &[u8], at: usize) -> u16
     requires { ⌜ at + 2 ≤ length (now s) ⌝ }
     ensures { λ r. ⌜ r ≡ word (now (s .entry)) at ⌝ }
 {

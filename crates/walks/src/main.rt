@@ -3,6 +3,8 @@
 // with stands on a line, then each step from the given marking on; a dot ends the walk.
 mod show; // show.rt: answers and markings in words
 
+use sheet::rows::tokens_from;
+use sheet::rows::two_bytes;
 use show::show_begun;
 use show::show_end;
 use show::show_moved;
@@ -12,24 +14,11 @@ use walk::Marking;
 
 const STDIN: i32 = 0;
 
-// Two bytes, the low one first.
-fn two_bytes(lo: u8, hi: u8) -> u16 {
-    (lo as u16) + 256 * (hi as u16)
-}
-
-fn marking_of(head: [u8; 33]) -> Marking {
-    let mut tokens = [0u16; Place::MOST];
-    for p in 0..Place::MOST {
-        tokens[p] = two_bytes(head[2 * p], head[2 * p + 1]);
-    }
-    Marking { tokens }
-}
-
 // Takes the next step of the input. A refused one leaves the marking, from which the walk then goes on.
 fn next_step(m: Marking, sheet: &[u8]) -> Marking {
     let mut number = [0u8; 2];
     io::read_full(STDIN, &mut number);
-    let t = two_bytes(number[0], number[1]) as usize;
+    let t = two_bytes(&number, 0) as usize;
     let s = walk::step_from(m, sheet, Transition(t));
     show_moved(s);
     s.marking
@@ -41,7 +30,8 @@ fn walk_on(room: &mut [u8]) {
     let mut head = [0u8; 33];
     io::read_full(STDIN, &mut head);
     show_begun(walk::begin(&room[..n]));
-    let mut m = marking_of(head);
+    let tokens = tokens_from(&head, 0, Place::MOST);
+    let mut m = Marking { tokens };
     let mut steps = head[32];
     while steps > 0 {
         m = next_step(m, &room[..n]);
@@ -57,7 +47,7 @@ fn next_walk(room: &mut [u8]) -> bool {
     if came < 2 {
         return false;
     }
-    let length = two_bytes(head[0], head[1]) as usize;
+    let length = two_bytes(&head, 0) as usize;
     if room.len() < length {
         return false;
     }

@@ -15,14 +15,14 @@ read-full-requires c κs = search needs
 returns : tie.Need-returns
 returns c = search needs
 
-array-read-two-bytes : tie.Need-array-read-two-bytes
-array-read-two-bytes c = search needs
-
-array-read-two-bytes-2 : tie.Need-array-read-two-bytes-2
-array-read-two-bytes-2 c = search needs
+slice-aggregate-two-bytes : tie.Need-slice-aggregate-two-bytes
+slice-aggregate-two-bytes c = search needs
 
 two-bytes-requires : tie.Need-two-bytes-requires
 two-bytes-requires c κs = search needs
+
+cast-length : tie.Need-cast-length
+cast-length c = search needs
 
 returns-2 : tie.Need-returns-2
 returns-2 c = search needs
@@ -31,7 +31,7 @@ slice-relend-prefix-take-in : tie.Need-slice-relend-prefix-take-in
 slice-relend-prefix-take-in c = search needs
 
 slice-aggregate-take-in : tie.Need-slice-aggregate-take-in
-slice-aggregate-take-in c = sym (length-take-le (c .before .before .two-bytes .result) (c .before .before .before .before .before .before .before .before .before .before .before .args .room .now) (omega arith))
+slice-aggregate-take-in c = sym (length-take-le (c .before .before .two-bytes .result) (c .before .before .before .before .before .before .before .before .before .before .before .before .args .room .now) (omega arith))
 
 take-in-requires : tie.Need-take-in-requires
 take-in-requires c κs = search needs
@@ -58,9 +58,9 @@ next-sheet-spec =
     slice-aggregate-read-full
     read-full-requires
     returns
-    array-read-two-bytes
-    array-read-two-bytes-2
+    slice-aggregate-two-bytes
     two-bytes-requires
+    cast-length
     returns-2
     slice-relend-prefix-take-in
     slice-aggregate-take-in

@@ -15,23 +15,23 @@ read-full-requires c κs = search needs
 returns : tie.Need-returns
 returns c = search needs
 
-array-read-two-bytes : tie.Need-array-read-two-bytes
-array-read-two-bytes c = search needs
-
-array-read-two-bytes-2 : tie.Need-array-read-two-bytes-2
-array-read-two-bytes-2 c = search needs
+slice-aggregate-two-bytes : tie.Need-slice-aggregate-two-bytes
+slice-aggregate-two-bytes c = search needs
 
 two-bytes-requires : tie.Need-two-bytes-requires
 two-bytes-requires c κs = search needs
 
-array-read-two-bytes-3 : tie.Need-array-read-two-bytes-3
-array-read-two-bytes-3 c = search needs
+cast-i : tie.Need-cast-i
+cast-i c = search needs
 
-array-read-two-bytes-4 : tie.Need-array-read-two-bytes-4
-array-read-two-bytes-4 c = search needs
+slice-aggregate-two-bytes-2 : tie.Need-slice-aggregate-two-bytes-2
+slice-aggregate-two-bytes-2 c = search needs
 
 two-bytes-requires-2 : tie.Need-two-bytes-requires-2
 two-bytes-requires-2 c κs = search needs
+
+cast-t : tie.Need-cast-t
+cast-t c = search needs
 
 array-read-sizes-of : tie.Need-array-read-sizes-of
 array-read-sizes-of c = search needs
@@ -39,14 +39,14 @@ array-read-sizes-of c = search needs
 sizes-of-requires : tie.Need-sizes-of-requires
 sizes-of-requires c κs = search needs
 
-array-read-two-bytes-5 : tie.Need-array-read-two-bytes-5
-array-read-two-bytes-5 c = search needs
-
-array-read-two-bytes-6 : tie.Need-array-read-two-bytes-6
-array-read-two-bytes-6 c = search needs
+slice-aggregate-two-bytes-3 : tie.Need-slice-aggregate-two-bytes-3
+slice-aggregate-two-bytes-3 c = search needs
 
 two-bytes-requires-3 : tie.Need-two-bytes-requires-3
 two-bytes-requires-3 c κs = search needs
+
+cast-length : tie.Need-cast-length
+cast-length c = search needs
 
 returns-2 : tie.Need-returns-2
 returns-2 c = search needs
@@ -55,7 +55,7 @@ slice-relend-prefix-question : tie.Need-slice-relend-prefix-question
 slice-relend-prefix-question c = search needs
 
 slice-aggregate-question : tie.Need-slice-aggregate-question
-slice-aggregate-question c = sym (length-take-le (c .before .before .two-bytes3 .result) (c .before .before .before .before .before .before .before .before .before .before .before .before .before .args .room .now) (omega arith))
+slice-aggregate-question c = sym (length-take-le (c .before .before .two-bytes3 .result) (c .before .before .before .before .before .before .before .before .before .before .before .before .before .before .before .before .args .room .now) (omega arith))
 
 question-requires : tie.Need-question-requires
 question-requires c κs = search needs
@@ -79,17 +79,17 @@ next-question-spec =
     slice-aggregate-read-full
     read-full-requires
     returns
-    array-read-two-bytes
-    array-read-two-bytes-2
+    slice-aggregate-two-bytes
     two-bytes-requires
-    array-read-two-bytes-3
-    array-read-two-bytes-4
+    cast-i
+    slice-aggregate-two-bytes-2
     two-bytes-requires-2
+    cast-t
     array-read-sizes-of
     sizes-of-requires
-    array-read-two-bytes-5
-    array-read-two-bytes-6
+    slice-aggregate-two-bytes-3
     two-bytes-requires-3
+    cast-length
     returns-2
     slice-relend-prefix-question
     slice-aggregate-question

@@ -15,11 +15,8 @@ read-full-requires c κs = search needs
 returns : tie.Need-returns
 returns c = search needs
 
-array-read-two-bytes : tie.Need-array-read-two-bytes
-array-read-two-bytes c = search needs
-
-array-read-two-bytes-2 : tie.Need-array-read-two-bytes-2
-array-read-two-bytes-2 c = search needs
+slice-aggregate-two-bytes : tie.Need-slice-aggregate-two-bytes
+slice-aggregate-two-bytes c = search needs
 
 two-bytes-requires : tie.Need-two-bytes-requires
 two-bytes-requires c κs = search needs
@@ -35,7 +32,7 @@ slice-relend-prefix-walk-on c = search needs
 
 slice-aggregate-walk-on : tie.Need-slice-aggregate-walk-on
 slice-aggregate-walk-on c =
-    let a = c .before .before .before .before .before .before .before .before .args in
+    let a = c .before .before .before .before .before .before .before .before .before .args in
     sym (length-take-le (c .before .before .two-bytes .result) (a .room .now) (omega arith))
 
 walk-on-requires : tie.Need-walk-on-requires
@@ -54,8 +51,7 @@ next-walk-spec =
     slice-aggregate-read-full
     read-full-requires
     returns
-    array-read-two-bytes
-    array-read-two-bytes-2
+    slice-aggregate-two-bytes
     two-bytes-requires
     cast-length
     returns-2

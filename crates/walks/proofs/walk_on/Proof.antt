@@ -33,8 +33,11 @@ begin-requires c κs = search needs
 show-begun-requires : tie.Need-show-begun-requires Inv-loop μ-loop
 show-begun-requires c κs = search needs
 
-marking-of-requires : tie.Need-marking-of-requires Inv-loop μ-loop
-marking-of-requires c κs = search needs
+slice-aggregate-tokens-from : tie.Need-slice-aggregate-tokens-from Inv-loop μ-loop
+slice-aggregate-tokens-from c = search needs
+
+tokens-from-requires : tie.Need-tokens-from-requires Inv-loop μ-loop
+tokens-from-requires c κs = search needs
 
 array-read-steps : tie.Need-array-read-steps Inv-loop μ-loop
 array-read-steps c = search needs
@@ -82,7 +85,8 @@ walk-on-spec =
     slice-aggregate-begin
     begin-requires
     show-begun-requires
-    marking-of-requires
+    slice-aggregate-tokens-from
+    tokens-from-requires
     array-read-steps
     loop-holds
     slice-reshare-prefix-next-step
