@@ -58,11 +58,6 @@ abbrev pub IsListed : Read Contents → ℕ → ℕ → List ℕ → List ℕ �
 IsListed (refused q) marks queue old new r = (r ≡ listed.Refused q) × (new ≡ old)
 IsListed (sound x) marks queue old new r = Lists (roomCheck marks queue (length old)) x old new r
 
--- a check passed on
-abbrev pub passedListed : Check → Listed
-passedListed Fine = listed.Written 0
-passedListed (Refused q) = listed.Refused q
-
 -- a refusal's line: the area is long enough, or 19
 abbrev pub RefusalWritten : Bool → Refusal → List ℕ → List ℕ → Listed → Type 0
 RefusalWritten true q old new r = (r ≡ listed.Written (length (refusalLine q))) × (new ≡ refusalLine q ++ drop (length (refusalLine q)) old)

@@ -11,7 +11,7 @@ ghost use Rattle.lent.specs.Wiped.{Wiped};
 ghost use Rattle.pairs.specs.Pairs.{areaAfter};
 ghost use Rattle.text.specs.Bytes.{Wrote};
 ghost use Rattle.lines.specs.Lines.{refusalLine};
-ghost use Rattle.listing.specs.Listed.{IsLine, IsListing, IsListed, IsRefusalText, IsPage, Starts, roomCheck, listingCheck, passedListed};
+ghost use Rattle.listing.specs.Listed.{IsLine, IsListing, IsListed, IsRefusalText, IsPage, Starts, roomCheck, listingCheck};
 use lent::wipe;
 use lines::claim_line;
 use lines::counts_line;
@@ -30,18 +30,6 @@ use verdicts::space::judge_claim;
 pub enum Listed {
     Written(usize),
     Refused(Refusal),
-}
-
-impl Listed {
-    // A check passed on.
-    fn passed(check: Check) -> Listed
-        ensures { λ r. ⌜ r ≡ passedListed check ⌝ }
-    {
-        match check {
-            Check::Fine => Listed::Written(0),
-            Check::Refused(r) => Listed::Refused(r),
-        }
-    }
 }
 
 // The refusals in their order, behind the sheet's.
@@ -130,12 +118,12 @@ pub fn listing_of(sheet: &[u8], marks: &mut [u8], queue: &mut [u16], text: &mut 
 {
     let answer = read(sheet);
     let Reading::Sound(counts) = answer else {
-        return Listed::passed(answer.check());
+        return Listed::Refused(answer.refusal());
     };
     let check = checked(marks.len(), queue.len(), text.len());
-    let Check::Fine = check else {
-        return Listed::passed(check);
-    };
+    if let Check::Refused(r) = check {
+        return Listed::Refused(r);
+    }
     let end = written(sheet, counts, marks, queue, text);
     Listed::Written(end)
 }

@@ -6,14 +6,14 @@ use lib.ListN.{length, drop}
 use Rattle.format.specs.Read.{Read, sound, refused}
 use Rattle.format.specs.Contents.{Contents}
 use Rattle.format.specs.Reading.{reading}
-use Rattle.reader.specs.Answers.{checkOf}
+use Rattle.reader.specs.Answers.{IsMalformed}
 use Rattle.reader.specs.declared.Check.{Check}
 use Rattle.reader.specs.declared.Check.the-variants.{Fine, Refused}
 use Rattle.sheet.proofs.Taken.{sound-answer, refused-answer}
 use Rattle.pairs.specs.Pairs.{areaAfter}
 use Rattle.text.proofs.Writing.{length-written, whole}
 use Rattle.listing.specs.declared.Listed.the-variants as listed
-use Rattle.listing.specs.Listed.{IsListed, Lists, passedListed, roomCheck, listingCheck}
+use Rattle.listing.specs.Listed.{IsListed, Lists, roomCheck, listingCheck}
 use Rattle.listing.proofs.Lined.{room-passed}
 use borrow.Author.Needs.{needs}
 use Rattle.listing.proofs.listing_of.Statement.{statement}
@@ -28,34 +28,25 @@ enum-known-answer c = search needs
 enum-told : tie.Need-enum-told
 enum-told c = search needs
 
-check-requires : tie.Need-check-requires
-check-requires c κs = search needs
-
-passed-requires : tie.Need-passed-requires
-passed-requires c κs = search needs
+refusal-requires : tie.Need-refusal-requires
+refusal-requires c κs = subst IsMalformed (sym (c .enum-told .given .1)) tt
 
 returns : tie.Need-returns
 returns c =
-    let a = c .before .before .before .before .before .before .before .before .before .args in
+    let a = c .before .before .before .before .before .before .before .before .args in
     let m = length (a .marks .now) in
     let l = length (a .queue .now) in
     let t = length (a .text .now) in
-    let e = refused-answer (reading (a .sheet .now)) (sym (c .before .before .before .before .read .ensures) ∙ c .before .before .enum-told .given .1) in
+    let e = refused-answer (reading (a .sheet .now)) (sym (c .before .before .before .read .ensures) ∙ c .refusal .ensures) in
     let after : (old : List ℕ) → old ≡ areaAfter (listingCheck (reading (a .sheet .now)) m l t) old =
     λ old. ap (λ (y : Read Contents). areaAfter (listingCheck y m l t) old) (sym e) in
-    (subst (λ (y : Read Contents). IsListed y m l (a .text .now) (a .text .now) (c .passed .result)) (sym e) (c .passed .ensures ∙ ap passedListed (c .before .check .ensures ∙ ap checkOf (c .before .before .enum-told .given .1)), refl), (after (a .marks .now), after (a .queue .now)))
+    (subst (λ (y : Read Contents). IsListed y m l (a .text .now) (a .text .now) (listed.Refused (c .refusal .result))) (sym e) (refl, refl), (after (a .marks .now), after (a .queue .now)))
 
 checked-requires : tie.Need-checked-requires
 checked-requires c κs = search needs
 
-enum-told-2 : tie.Need-enum-told-2
-enum-told-2 c = search needs
-
-enum-told-3 : tie.Need-enum-told-3
-enum-told-3 c = search needs
-
-passed-requires-2 : tie.Need-passed-requires-2
-passed-requires-2 c κs = search needs
+enum-known-check : tie.Need-enum-known-check
+enum-known-check c = search needs
 
 returns-2 : tie.Need-returns-2
 returns-2 c =
@@ -63,11 +54,15 @@ returns-2 c =
     let m = length (a .marks .now) in
     let l = length (a .queue .now) in
     let t = length (a .text .now) in
+    let r = c .before .check .given .0 .0 in
     let x = sound-answer (reading (a .sheet .now)) (sym (c .before .before .before .before .before .before .before .read .ensures) ∙ c .before .before .before .before .before .answer .given .1) in
-    let ck : roomCheck m l t ≡ Refused (c .before .enum-told3 .given .0 .0) = sym (c .before .before .before .checked .ensures) ∙ c .before .enum-told3 .given .1 in
-    let after : (old : List ℕ) → areaAfter (Refused (c .before .enum-told3 .given .0 .0)) old ≡ areaAfter (listingCheck (reading (a .sheet .now)) m l t) old =
+    let ck : roomCheck m l t ≡ Refused r = sym (c .before .before .before .checked .ensures) ∙ c .before .check .given .1 in
+    let after : (old : List ℕ) → areaAfter (Refused r) old ≡ areaAfter (listingCheck (reading (a .sheet .now)) m l t) old =
     λ old. ap (λ (q : Check). areaAfter q old) (sym ck) ∙ ap (λ (y : Read Contents). areaAfter (listingCheck y m l t) old) (sym (x .1)) in
-    (subst (λ (y : Read Contents). IsListed y m l (a .text .now) (a .text .now) (c .passed2 .result)) (sym (x .1)) (subst (λ (q : Check). Lists q (x .0) (a .text .now) (a .text .now) (c .passed2 .result)) (sym ck) (c .passed2 .ensures ∙ ap passedListed (c .before .enum-told3 .given .1), refl)), (after (a .marks .now), after (a .queue .now)))
+    (subst (λ (y : Read Contents). IsListed y m l (a .text .now) (a .text .now) (listed.Refused r)) (sym (x .1)) (subst (λ (q : Check). Lists q (x .0) (a .text .now) (a .text .now) (listed.Refused r)) (sym ck) (refl, refl)), (after (a .marks .now), after (a .queue .now)))
+
+enum-told-2 : tie.Need-enum-told-2
+enum-told-2 c = search needs
 
 written-requires : tie.Need-written-requires
 written-requires c κs =
@@ -112,14 +107,12 @@ listing-of-spec =
     read-requires
     enum-known-answer
     enum-told
-    check-requires
-    passed-requires
+    refusal-requires
     returns
     checked-requires
-    enum-told-2
-    enum-told-3
-    passed-requires-2
+    enum-known-check
     returns-2
+    enum-told-2
     written-requires
     same-length
     same-length-2

@@ -1,9 +1,8 @@
 -- `written` meets its contract: the lines are made in the first 20,000 entries of both areas, which are wiped after it.
-use mathlib.Core.Path.{_≡_, sym, _∙_, subst}
-use Prim.Native.Nat.{ℕ, _≤_}
+use mathlib.Core.Path.{_≡_, sym, _∙_}
 use lib.ListN.{length, take}
 use lib.Seq.{length-take-le}
-use Rattle.lent.proofs.Lent.{lent-length, lent-wiped}
+use Rattle.lent.proofs.Lent.{lent-length, lent-enough, lent-wiped}
 use borrow.Author.Needs.{needs}
 use Rattle.listing.proofs.written.Statement.{statement}
 use Rattle.listing.proofs.written.Tie as tie
@@ -34,7 +33,7 @@ wipe-requires : tie.Need-wipe-requires
 wipe-requires c κs =
     let s = c .before .before .before .before .before .before .before .before .before .before .before .before .before .before .before .before in
     let r = c .before .before .before .before .before .before .before .before .all-lines in
-    (subst (λ (n : ℕ). 20000 ≤ n) (sym (lent-length 20000 (r .last .1 .1 .0) (s .args .marks .now) (r .kept .1 .1 .0 ∙ marks-long s) (s .pre .1 .0))) (s .pre .1 .0), subst (λ (n : ℕ). 20000 ≤ n) (sym (lent-length 20000 (r .last .1 .1 .1 .0) (s .args .queue .now) (r .kept .1 .1 .1 .0 ∙ queue-long s) (s .pre .1 .1))) (s .pre .1 .1))
+    (lent-enough 20000 (r .last .1 .1 .0) (s .args .marks .now) (r .kept .1 .1 .0 ∙ marks-long s) (s .pre .1 .0), lent-enough 20000 (r .last .1 .1 .1 .0) (s .args .queue .now) (r .kept .1 .1 .1 .0 ∙ queue-long s) (s .pre .1 .1))
 
 same-length : tie.Need-same-length
 same-length c =
