@@ -150,14 +150,22 @@ fn show_target(sheet: &[u8]) {
     say(b"\n");
 }
 
-// Every transition and every claim, with numbers from 0 to one too many.
-pub fn show_all(sheet: &[u8]) {
-    for t in 0..66 {
+// Numbers from 0 to one too many, here and for the claims.
+fn show_transitions(sheet: &[u8]) {
+    for t in 0..Transition::MOST + 2 {
         show_transition(sheet, t);
     }
-    show_start(sheet);
-    show_target(sheet);
-    for i in 0..34 {
+}
+
+fn show_claims(sheet: &[u8]) {
+    for i in 0..Claim::MOST + 2 {
         show_claim(sheet, i);
     }
+}
+
+pub fn show_all(sheet: &[u8]) {
+    show_transitions(sheet);
+    show_start(sheet);
+    show_target(sheet);
+    show_claims(sheet);
 }
