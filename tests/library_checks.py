@@ -2,7 +2,8 @@
 
     python3 tests/library_checks.py
 
-The archive must be built (`scripts/library`). It is for x86-64 only, so on another machine nothing is linked.
+The archive must be built (`scripts/library`). It is for x86-64; on another machine C is linked by a cross compiler and run by the
+kit's emulator, and Rust, which has no library of its own for x86-64 there, isn't.
 """
 
 import sys
@@ -10,7 +11,6 @@ import sys
 sys.dont_write_bytecode = True  # before the imports of our own modules, which would leave __pycache__ behind
 
 import platform
-import shutil
 import subprocess
 from collections.abc import Iterator
 from pathlib import Path
@@ -18,29 +18,31 @@ from tempfile import TemporaryDirectory
 
 from checks import Checks, run_checks
 from named_cases import FIRST
-from programs import ROOT, TIME_LIMIT, output_of
+from programs import ROOT, TIME_LIMIT, command, output_of
 from verdicts_by_hand import LISTING_OF_01
 
-MACHINE = "x86_64"
+NATIVE = platform.machine() == "x86_64"
+COMPILER = "gcc" if NATIVE else "x86_64-linux-gnu-gcc"
 ARCHIVES = ROOT / "target" / "staticlib"
 STRICT_C = ["-std=c11", "-pedantic", "-Wall", "-Wextra", "-Werror", "-O2"]
 STRICT_RUST = ["--edition", "2021", "--test", "-D", "warnings"]
 
 
 def check_library(checks: Checks) -> None:
-    if platform.machine() != MACHINE:
-        print(f"library: not linked, since this machine is {platform.machine()} and the archive is for {MACHINE}")
-        return
     with TemporaryDirectory() as folder:
         check_c(checks, Path(folder) / "example")
-        check_rust(checks, Path(folder) / "library")
+        if NATIVE:
+            check_rust(checks, Path(folder) / "library")
+        else:
+            print(f"library: not linked by rustc, which makes no x86-64 programs on {platform.machine()}")
 
 
 def check_c(checks: Checks, program: Path) -> None:
     source, archive = ROOT / "tests" / "c" / "example.c", ARCHIVES / "libkrunvedo.a"
-    if built(checks, ["gcc", *STRICT_C, f"-I{ROOT / 'include'}", source, archive, "-o", program]):
+    if built(checks, [COMPILER, *STRICT_C, f"-I{ROOT / 'include'}", source, archive, "-o", program]):
         expected = "".join(line + "\n" for line in expected_lines())
-        checks.equal("the library from C", FIRST, expected, output_of([str(program)], TIME_LIMIT, input=FIRST))
+        line = [str(program)] if NATIVE else command(str(program))
+        checks.equal("the library from C", FIRST, expected, output_of(line, TIME_LIMIT, input=FIRST))
 
 
 def check_rust(checks: Checks, program: Path) -> None:
@@ -50,10 +52,6 @@ def check_rust(checks: Checks, program: Path) -> None:
 
 
 def built(checks: Checks, line: list) -> bool:
-    """Whether the compiler is here and made the program; each says so on a line, lest a skipped one go unseen."""
-    if not shutil.which(line[0]):
-        print(f"library: not linked by {line[0]}, which isn't on this machine")
-        return False
     made = subprocess.run([str(word) for word in line], capture_output=True, text=True)
     checks.equal(f"build with {line[0]}", b"", (0, ""), (made.returncode, made.stderr))
     if made.returncode == 0:

@@ -20,7 +20,7 @@ use Rattle.format.specs.Reading.{byte, signedWord, markedAt, wholeAt, openedAt,
 use Rattle.reader.specs.Answers.{checked}
 use Rattle.reader.specs.declared.Check.{Check}
 use Rattle.reader.specs.declared.Check.the-variants.{Fine, Refused}
-use Rattle.sheet.specs.Held.{claimCheck, transitionCheck}
+use Rattle.sheet.specs.Held.{claimCheck, transitionCheck, weightsOf, weightsIn, noWeights}
 use Rattle.pairs.specs.Pairs.{pairCheck}
 use Rattle.verdicts.specs.Judged.{verdictCheck}
 use Rattle.listing.specs.Listed.{Lists, IsListed, roomCheck, listingCheck}
@@ -156,6 +156,15 @@ number-in (Refused r) x old new l (e, after) = ap (λ (k : Listed). listedIs k .
 listed-number : (y : Read Contents) (m q : ℕ) (old new : List ℕ) (l : Listed) → IsListed y m q old new l → checkIs (listingCheck y m q (length old)) .number ≡ listedIs l .number
 listed-number (sound x) m q old new l e = number-in (roomCheck m q (length old)) x old new l e
 listed-number (refused r) m q old new l (e, after) = ap (λ (k : Listed). listedIs k .number) (sym e)
+
+-- what the weights' answer passes on
+pub weights-check : (y : Read Contents) (t : Transition) → weightsOf y t .answer ≡ transitionCheck y t
+weights-check (refused r) t = refl
+weights-check (sound x) t = by (among (t .0) (length (x .setting .net .transitions)))
+  where
+    by : (q : Bool) → choose q (weightsIn x (t .0)) (noWeights (Refused (notATransition t))) .answer ≡ choose q Fine (Refused (notATransition t))
+    by true = refl
+    by false = refl
 
 -- The number 0 says that nothing is refused, of each check that the exports pass on.
 module _ (s : List ℕ) where

@@ -1,5 +1,5 @@
 // The library for programs in other languages: every call over numbers and slices. `include/krunvedo.h` declares it for C.
-// Each export makes one call and puts its answer into numbers, as `numbers/specs/Numbers.antt` sets them out.
+// Each export asks the library and puts its answer into numbers, as `numbers/specs/Numbers.antt` sets them out.
 ghost use mathlib.Core.Path.{_≡_};
 ghost use lib.ListN.{length};
 ghost use Rattle.format.specs.Reading.{reading};

@@ -56,10 +56,6 @@ pub at-most-itself : (xs : List ℕ) → xs ⊑ xs
 unfolding _⊑_
 at-most-itself xs = (refl, λ p. omega arith)
 
-pub at-most-via : (xs ys zs : List ℕ) → xs ⊑ ys → ys ⊑ zs → xs ⊑ zs
-unfolding _⊑_
-at-most-via xs ys zs h k = (h .0 ∙ k .0, λ p. omega (arith, h .1 p, k .1 p))
-
 pub at-most-sum : (xs ys : List ℕ) → length ys ≡ length xs → xs ⊑ xs ⊞ ys
 unfolding _⊑_
 at-most-sum xs ys e = (sym (length-plus xs ys (sym e)), λ p. omega (arith, getD-plus xs ys p (sym e)))

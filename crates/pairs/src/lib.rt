@@ -53,7 +53,7 @@ impl Pair {
     }
 }
 
-// The refusals in their order, and the counts of the sheet.
+// The refusals in their order, behind the sheet's.
 fn checked(counts: Counts, i: Claim, t: Transition, marks: usize, queue: usize) -> Check
     ensures { λ r. ⌜ r ≡ countedCheck counts i t marks queue ⌝ }
 {

@@ -59,7 +59,7 @@ pub fn opened(s: &[u8], at: usize, first: u8, second: u8, size: usize) -> Check
     whole(s, at, size)
 }
 
-// Weights, from a byte on up to another.
+// So many weights, from a byte on.
 pub fn weights(s: &[u8], from: usize, count: usize) -> Check
     requires { ⌜ from + count ≤ length (now s) ⌝ }
     ensures { λ r. ⌜ r ≡ checked (eachFits weightFits 4 (now (s .entry)) from count) ⌝ }

@@ -1,7 +1,7 @@
 // Where the records stand, once the numbers of places and transitions are known.
 ghost use mathlib.Core.Path.{_≡_};
 ghost use Prim.Native.Nat.{_+_, _*_, _≤_};
-ghost use Rattle.format.specs.Reading.{sizeOf, transitionsFrom, transitionSize, startFrom, targetFrom, claimsFrom, claimSize};
+ghost use Rattle.format.specs.Reading.{sizeOf, transitionsFrom, transitionSize, targetFrom, claimsFrom, claimSize};
 
 // The first byte behind k transitions.
 pub fn behind_transitions(n: usize, k: usize) -> usize

@@ -2,7 +2,7 @@
 ghost use mathlib.Core.Path.{_≡_};
 ghost use lib.IntN.{natAbs};
 ghost use Rattle.signed.specs.Twos.{twos8, twos16};
-ghost use Rattle.terms.specs.Limits.{among as isAmong, placesFit, transitionsFit, weightFits, coefficientFits, constantFits, areasFit};
+ghost use Rattle.terms.specs.Limits.{among as isAmong, weightFits, coefficientFits, constantFits, areasFit};
 ghost use Rattle.terms.specs.Kinds.{kindOfByte};
 ghost use Rattle.terms.specs.Refusals.{detailOf, refusedAt, notAClaim, notATransition, smallArea, notEnabled, tooMany, smallText};
 
