@@ -25,7 +25,8 @@ use Rattle.pairs.specs.Pairs.{pairCheck}
 use Rattle.verdicts.specs.Judged.{verdictCheck}
 use Rattle.listing.specs.Listed.{Lists, IsListed, roomCheck, listingCheck}
 use Rattle.listing.specs.declared.Listed.{Listed}
-use Rattle.walk.specs.Walk.{first, lowest, noSuchTransition, isShort, lowestShort, isOver, lowestOver, stepOf}
+use Rattle.firing.specs.Firing.{lowest, isShort, lowestShort, isOver, lowestOver}
+use Rattle.walk.specs.Walk.{first, noSuchTransition, stepOf}
 use Rattle.walk.specs.declared.Marking.{Marking}
 use Rattle.numbers.specs.declared.Written.{Written}
 use Rattle.numbers.specs.Numbers.{checkIs, listedIs}

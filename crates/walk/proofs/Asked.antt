@@ -21,8 +21,9 @@ use Rattle.reader.specs.declared.Counts.{Counts}
 use Rattle.reader.specs.declared.Check.the-variants.{Fine, Refused}
 use Rattle.reader.specs.declared.Reading.the-variants.{Sound}
 use Rattle.sheet.proofs.Taken.{sound-answer, among-some, tc-is, most, weights-fit, weights-taken}
-use Rattle.walk.specs.Walk.{first, firingChecks, firedIn, moved, firingOf, stepOf}
-use Rattle.walk.specs.Weighted.{weighted}
+use Rattle.firing.specs.Firing.{firedIn}
+use Rattle.walk.specs.Walk.{first, firingChecks, moved, firingOf, stepOf}
+use Rattle.firing.specs.Weighted.{weighted}
 use Rattle.walk.specs.declared.Marking.{Marking}
 use Rattle.walk.specs.declared.Moved.{Moved}
 use Rattle.walk.proofs.Order.{answered}

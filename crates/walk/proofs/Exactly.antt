@@ -24,11 +24,12 @@ use Rattle.reader.specs.declared.Check.{Check}
 use Rattle.reader.specs.declared.Check.the-variants.{Fine, Refused}
 use Rattle.sheet.proofs.Known.{all-at}
 use Rattle.sheet.proofs.Taken.{among-some}
-use Rattle.walk.specs.Walk.{first, isShort, isOver, lowestShort, lowestOver, firingChecks, stepOf}
+use Rattle.firing.specs.Firing.{isShort, isOver, lowestShort, lowestOver}
+use Rattle.walk.specs.Walk.{first, firingChecks, stepOf}
 use Rattle.walk.specs.declared.Marking.{Marking}
-use Rattle.walk.specs.Table.{tokensIn, IsLowest, Short, Over}
-use Rattle.walk.proofs.Lowest.{none-found, none-or-lowest}
-use Rattle.walk.proofs.Fires.{fire-length}
+use Rattle.firing.specs.Table.{tokensIn, IsLowest, Short, Over}
+use Rattle.firing.proofs.Lowest.{none-found, none-or-lowest}
+use Rattle.firing.proofs.Fires.{fire-length}
 
 -- the number and the detail of an answer tell refusals apart
 abbrev number-of : Check → ℕ

@@ -1,5 +1,3 @@
-pub mod Lowest
-pub mod Fires
 pub mod Order
 pub mod Asked
 pub mod Exactly

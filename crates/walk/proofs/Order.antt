@@ -7,7 +7,8 @@ use Rattle.terms.specs.declared.Refusal.{Refusal}
 use Rattle.nets.specs.Nets as nets
 use Rattle.reader.specs.declared.Check.{Check}
 use Rattle.reader.specs.declared.Check.the-variants.{Fine, Refused}
-use Rattle.walk.specs.Walk.{first, lowestShort, lowestOver, firedIn, moved, firingOf}
+use Rattle.firing.specs.Firing.{lowestShort, lowestOver, firedIn}
+use Rattle.walk.specs.Walk.{first, moved, firingOf}
 use Rattle.walk.specs.declared.Marking.{Marking}
 use Rattle.walk.specs.declared.Moved.{Moved}
 

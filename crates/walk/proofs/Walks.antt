@@ -17,11 +17,12 @@ use Rattle.format.proofs.Accepted.{formed}
 use Rattle.format.proofs.Sound.{places-fit}
 use Rattle.reader.specs.declared.Check.{Check}
 use Rattle.reader.specs.declared.Check.the-variants.{Fine, Refused}
-use Rattle.walk.specs.Walk.{firedIn, movedTo, stepOf, beginOf, walked, AllFine}
-use Rattle.walk.specs.Table.{StaysWithin}
+use Rattle.firing.specs.Firing.{firedIn}
+use Rattle.walk.specs.Walk.{movedTo, stepOf, beginOf, walked, AllFine}
+use Rattle.firing.specs.Table.{StaysWithin}
 use Rattle.walk.specs.declared.Marking.{Marking}
 use Rattle.walk.specs.declared.Moved.{Moved}
-use Rattle.walk.proofs.Fires.{fire-length}
+use Rattle.firing.proofs.Fires.{fire-length}
 use Rattle.walk.proofs.Exactly.{length-places, taken-long, put-long, fine-exactly}
 
 abbrev pub numbers : List Transition → List ℕ

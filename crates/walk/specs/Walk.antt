@@ -1,14 +1,10 @@
--- The walk: document 01, "The walk", "Firing" and "Numbers that say no".
+-- The walk: document 01, "The walk" and "Numbers that say no".
 use mathlib.Core.Path.{_≡_}
-use mathlib.Core.Bool.{Bool}
-use mathlib.Core.List.{List, [], _∷_, _++_}
-use Prim.Native.Nat.{ℕ, zero, suc, _+_}
-use lib.Dec.{ltb}
-use lib.ListN.{length, getD, take, drop}
-use Rattle.terms.specs.Limits.{among, mostTokens}
-use Rattle.terms.specs.Refusals.{notATransition, notEnabled, tooMany}
-use Rattle.terms.specs.declared.Place.{Place}
-use Rattle.terms.specs.declared.Refusal.{Refusal}
+use mathlib.Core.List.{List, [], _∷_}
+use Prim.Native.Nat.{ℕ}
+use lib.ListN.{length, take}
+use Rattle.terms.specs.Limits.{among}
+use Rattle.terms.specs.Refusals.{notATransition}
 use Rattle.terms.specs.declared.Transition.{Transition}
 use Rattle.nets.specs.Nets as nets
 use Rattle.nets.specs.HalfSpaces.{sixteen}
@@ -16,6 +12,7 @@ use Rattle.format.specs.Read.{Read, sound, refused, choose}
 use Rattle.format.specs.Contents.{Contents}
 use Rattle.reader.specs.declared.Check.{Check}
 use Rattle.reader.specs.declared.Check.the-variants.{Fine, Refused}
+use Rattle.firing.specs.Firing.{lowestShort, lowestOver, firedIn}
 use Rattle.walk.specs.declared.Marking.{Marking}
 use Rattle.walk.specs.declared.Begun.{Begun}
 use Rattle.walk.specs.declared.Moved.{Moved}
@@ -26,36 +23,13 @@ first [] = Fine
 first (Fine ∷ checks) = first checks
 first (Refused r ∷ checks) = Refused r
 
--- Of the k places that follow the first p, the lowest for which the test holds is refused. Places are numbered from 1, so it has the number p + 1.
-unfoldable pub lowest : (ℕ → Bool) → (Place → Refusal) → ℕ → ℕ → Check
-lowest test refusal p zero = Fine
-lowest test refusal p (suc k) = choose (test p) (Refused (refusal (record { 0 = p + 1 }))) (lowest test refusal (p + 1) k)
-
 -- 12: transition number 0 or above T
 abbrev pub noSuchTransition : nets.Net → Transition → Check
 noSuchTransition net t = choose (among (t .0) (length (net .transitions))) Fine (Refused (notATransition t))
 
--- 15: the lowest of n places that has fewer tokens than are taken
-abbrev pub isShort : List ℕ → nets.Marking → ℕ → Bool
-isShort taken m p = ltb (getD m p 0) (getD taken p 0)
-
-abbrev pub lowestShort : ℕ → List ℕ → nets.Marking → Check
-lowestShort n taken m = lowest (isShort taken m) notEnabled 0 n
-
--- 16: the lowest of n places that has more than 65,535 in the marking after the whole step
-abbrev pub isOver : nets.Marking → ℕ → Bool
-isOver after p = ltb mostTokens (getD after p 0)
-
-abbrev pub lowestOver : ℕ → nets.Marking → Check
-lowestOver n after = lowest (isOver after) tooMany 0 n
-
 -- what a firing is refused for, in order
 abbrev pub firingChecks : ℕ → nets.Transition → nets.Marking → List Check
 firingChecks n t m = lowestShort n (t .taken) m ∷ lowestOver n (nets.fire t m) ∷ []
-
--- A marking of the walk has 16 numbers. The first n are fired, and those beyond are neither read nor altered.
-abbrev pub firedIn : ℕ → nets.Transition → List ℕ → List ℕ
-firedIn n t tokens = nets.fire t (take n tokens) ++ drop n tokens
 
 -- A refusal changes no marking.
 abbrev pub movedTo : Check → List ℕ → Marking → Marking

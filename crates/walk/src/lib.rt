@@ -3,13 +3,11 @@ ghost use mathlib.Core.Path.{_≡_};
 ghost use Prim.Native.Nat.{_≤_};
 ghost use Rattle.format.specs.Reading.{reading};
 ghost use Rattle.walk.specs.Walk.{beginOf, firingOf, stepOf};
-ghost use Rattle.walk.specs.Weighted.{weighted};
+ghost use Rattle.firing.specs.Weighted.{weighted};
 
-mod places; // places.rt: what a firing does to each place
-
-use places::fired;
-use places::over;
-use places::short;
+use firing::fired;
+use firing::over;
+use firing::short;
 use reader::Check;
 use reader::Reading;
 use reader::layout::behind_transitions;

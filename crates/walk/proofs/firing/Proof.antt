@@ -1,6 +1,6 @@
 -- `firing` meets its contract: a place that is short stops it, then one that would have too many, and else the marking moves.
 use mathlib.Core.Path.{_∙_, sym}
-use Rattle.walk.specs.Weighted.{weighted}
+use Rattle.firing.specs.Weighted.{weighted}
 use Rattle.walk.proofs.Order.{stops-short, stops-over, none-stops}
 use borrow.Author.Needs.{needs}
 use Rattle.walk.proofs.firing.Statement.{statement}

@@ -10,8 +10,8 @@ use Rattle.terms.specs.declared.Refusal.{Refusal}
 use Rattle.format.specs.Read.{choose}
 use Rattle.reader.specs.declared.Check.{Check}
 use Rattle.reader.specs.declared.Check.the-variants.{Fine, Refused}
-use Rattle.walk.specs.Walk.{lowest}
-use Rattle.walk.specs.Table.{IsLowest}
+use Rattle.firing.specs.Firing.{lowest}
+use Rattle.firing.specs.Table.{IsLowest}
 
 abbrev pub number : ℕ → Place
 number p = record { 0 = p + 1 }

@@ -4,11 +4,11 @@ use native.Mathlib.Omega.{arith}
 use Prim.Native.Nat.{_+_, _-_, _≤_}
 use lib.ListN.{getD, take, set}
 use Rattle.nets.specs.Nets.{fire}
-use Rattle.walk.specs.Weighted.{weighted}
-use Rattle.walk.proofs.Fires.{enough-of, room-of, so-far, fired-step, fired-all}
+use Rattle.firing.specs.Weighted.{weighted}
+use Rattle.firing.proofs.Fires.{enough-of, room-of, so-far, fired-step, fired-all}
 use borrow.Author.Needs.{needs}
-use Rattle.walk.proofs.places.fired.Statement.{statement}
-use Rattle.walk.proofs.places.fired.Tie as tie
+use Rattle.firing.proofs.fired.Statement.{statement}
+use Rattle.firing.proofs.fired.Tie as tie
 
 abbrev Inv-loop : tie.InvT-loop
 Inv-loop n tokens taken put next₀ p₀ next p = (p ≤ n) × (next ≡ so-far p (fire (weighted n taken put) (take n tokens)) tokens)

@@ -5,12 +5,12 @@ use Prim.Native.Nat.{_-_, _≤_}
 use lib.ListN.{take}
 use Rattle.terms.specs.Refusals.{notEnabled}
 use Rattle.reader.specs.declared.Check.the-variants.{Refused}
-use Rattle.walk.specs.Walk.{lowest, isShort, lowestShort}
-use Rattle.walk.proofs.Lowest.{found, passed, all-passed}
-use Rattle.walk.proofs.Fires.{short-here, enough-here}
+use Rattle.firing.specs.Firing.{lowest, isShort, lowestShort}
+use Rattle.firing.proofs.Lowest.{found, passed, all-passed}
+use Rattle.firing.proofs.Fires.{short-here, enough-here}
 use borrow.Author.Needs.{needs}
-use Rattle.walk.proofs.places.short.Statement.{statement}
-use Rattle.walk.proofs.places.short.Tie as tie
+use Rattle.firing.proofs.short.Statement.{statement}
+use Rattle.firing.proofs.short.Tie as tie
 
 abbrev Inv-loop : tie.InvT-loop
 Inv-loop n tokens taken p₀ p = (p ≤ n) × (lowestShort n (take n taken) (take n tokens) ≡ lowest (isShort (take n taken) (take n tokens)) notEnabled p (n - p))

@@ -6,13 +6,13 @@ use lib.ListN.{take}
 use Rattle.terms.specs.Refusals.{tooMany}
 use Rattle.nets.specs.Nets.{fire}
 use Rattle.reader.specs.declared.Check.the-variants.{Refused}
-use Rattle.walk.specs.Walk.{lowest, isOver, lowestOver}
-use Rattle.walk.specs.Weighted.{weighted}
-use Rattle.walk.proofs.Lowest.{found, passed, all-passed}
-use Rattle.walk.proofs.Fires.{enough-of, over-here, room-here}
+use Rattle.firing.specs.Firing.{lowest, isOver, lowestOver}
+use Rattle.firing.specs.Weighted.{weighted}
+use Rattle.firing.proofs.Lowest.{found, passed, all-passed}
+use Rattle.firing.proofs.Fires.{enough-of, over-here, room-here}
 use borrow.Author.Needs.{needs}
-use Rattle.walk.proofs.places.over.Statement.{statement}
-use Rattle.walk.proofs.places.over.Tie as tie
+use Rattle.firing.proofs.over.Statement.{statement}
+use Rattle.firing.proofs.over.Tie as tie
 
 abbrev Inv-loop : tie.InvT-loop
 Inv-loop n tokens taken put p₀ p = (p ≤ n) × (lowestOver n (fire (weighted n taken put) (take n tokens)) ≡ lowest (isOver (fire (weighted n taken put) (take n tokens))) tooMany p (n - p))

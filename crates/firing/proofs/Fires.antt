@@ -12,9 +12,9 @@ use Rattle.nets.proofs.Vectors.{length-plus, getD-plus, length-minus, getD-minu
 use borrow.Author.Tests.{lt-ltb, le-ltb, ltb-false}
 use Rattle.terms.specs.Limits.{mostTokens}
 use Rattle.reader.specs.declared.Check.the-variants.{Fine}
-use Rattle.walk.specs.Walk.{isShort, isOver, lowestShort, lowestOver, firedIn}
-use Rattle.walk.specs.Weighted.{weighted}
-use Rattle.walk.proofs.Lowest.{none-found}
+use Rattle.firing.specs.Firing.{isShort, isOver, lowestShort, lowestOver, firedIn}
+use Rattle.firing.specs.Weighted.{weighted}
+use Rattle.firing.proofs.Lowest.{none-found}
 
 -- over as many weights as places
 module _ (t : Transition) (m : Marking) (as-taken : length (t .taken) ≡ length m) (as-put : length (t .put) ≡ length m) where

@@ -1,0 +1,3 @@
+pub mod Firing
+pub mod Weighted
+pub mod Table
