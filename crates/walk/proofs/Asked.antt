@@ -11,16 +11,14 @@ use Rattle.terms.specs.Refusals.{notATransition}
 use Rattle.terms.specs.declared.Transition.{Transition}
 use Rattle.nets.specs.Nets as nets
 use Rattle.nets.specs.HalfSpaces.{sixteen}
-use Rattle.format.specs.Read.{sound, choose}
-use Rattle.format.specs.Contents.{Contents}
+use Rattle.format.specs.Read.{choose}
 use Rattle.format.specs.Reading.{bytes, transitionSize, transitionsFrom, reading}
-use Rattle.format.proofs.Places.{Held, held}
 use Rattle.format.proofs.Standing.{length-bytes}
-use Rattle.reader.specs.Answers.{countsOf, answerOf}
 use Rattle.reader.specs.declared.Counts.{Counts}
 use Rattle.reader.specs.declared.Check.the-variants.{Fine, Refused}
-use Rattle.reader.specs.declared.Reading.the-variants.{Sound}
-use Rattle.sheet.proofs.Taken.{sound-answer, among-some, tc-is, most, weights-fit, weights-taken}
+use Rattle.sheet.specs.Known.{Known}
+use Rattle.sheet.proofs.Taken.{among-some}
+use Rattle.sheet.proofs.Known as known
 use Rattle.firing.specs.Firing.{firedIn}
 use Rattle.walk.specs.Walk.{first, firingChecks, moved, firingOf, stepOf}
 use Rattle.firing.specs.Weighted.{weighted}
@@ -28,15 +26,9 @@ use Rattle.walk.specs.declared.Marking.{Marking}
 use Rattle.walk.specs.declared.Moved.{Moved}
 use Rattle.walk.proofs.Order.{answered}
 
-module _ (s : List ℕ) (t : Transition) (k : Counts) (e : answerOf (reading s) ≡ Sound k) where
-  abbrev read-as : (x : Contents) × (reading s ≡ sound x) × (countsOf x ≡ k)
-  read-as = sound-answer (reading s) e
-
+module _ (s : List ℕ) (t : Transition) (k : Counts) (q : Known s k) where
   abbrev net : nets.Net
-  net = read-as .0 .setting .net
-
-  there : Held s (read-as .0)
-  there = held s (read-as .0) (read-as .1)
+  net = q .contents .setting .net
 
   -- the step, by whether the number is a transition's
   abbrev by-number : Marking → Bool → Moved
@@ -44,8 +36,8 @@ module _ (s : List ℕ) (t : Transition) (k : Counts) (e : answerOf (reading s) 
 
   numbered : (m : Marking) (b : Bool) → among (t .0) (k .transitions) ≡ b → stepOf (reading s) t m ≡ by-number m b
   numbered m b h =
-      ap (λ y. stepOf y t m) (read-as .1)
-      ∙ ap (by-number m) (ap (among (t .0)) (sym (tc-is s (read-as .0) k there (read-as .2))) ∙ h)
+      ap (λ y. stepOf y t m) (q .is-read)
+      ∙ ap (by-number m) (ap (λ (k : Counts). among (t .0) (k .transitions)) (q .counts) ∙ h)
 
   pub missing : (m : Marking) → among (t .0) (k .transitions) ≡ false → stepOf (reading s) t m ≡ answered (Refused (notATransition t)) m
   missing m h = numbered m false h
@@ -56,25 +48,23 @@ module _ (s : List ℕ) (t : Transition) (k : Counts) (e : answerOf (reading s) 
 
     pub limits : (k .places ≤ 16) × (t .0 - 1 ≤ 64)
     limits =
-        let b = most s (read-as .0) k there (read-as .2) in
+        let b = known.limits s k q in
         (b .0, omega (arith, b .1, from-one .1))
 
     module _ (at : ℕ) (is : at ≡ transitionsFrom + (t .0 - 1) * transitionSize (k .places)) where
       pub stands-whole : at + 2 + k .places + k .places ≤ length s
-      stands-whole = weights-fit s (read-as .0) k there (read-as .2) at (t .0 - 1) (omega (arith, from-one)) is
+      stands-whole = known.weights-whole s k q (t .0) (from-one .0) (from-one .1) at is
 
       weights-are : (taken put : List ℕ) → taken ≡ sixteen 0 (bytes s (at + 2) (k .places)) → put ≡ sixteen 0 (bytes s (at + 2 + k .places) (k .places)) → weighted (k .places) taken put ≡ nets.transition net (t .0)
       weights-are taken put u p =
-          let one : t .0 - 1 + 1 ≡ t .0 = omega (arith, from-one) in
           ap₂ {C = nets.Transition} (λ (u p : List ℕ). record { taken = u; put = p })
           (ap (take (k .places)) u ∙ take-at (bytes s (at + 2) (k .places)) _ (k .places) (length-bytes s (at + 2) (k .places)))
           (ap (take (k .places)) p ∙ take-at (bytes s (at + 2 + k .places) (k .places)) _ (k .places) (length-bytes s (at + 2 + k .places) (k .places)))
-          ∙ weights-taken s (read-as .0) k there (read-as .2) at (t .0 - 1) (omega (arith, from-one)) is
-          ∙ ap (nets.transition net) one
+          ∙ known.transition-is s k q (t .0) (from-one .0) (from-one .1) at is
 
       pub steps : (m : Marking) (taken put : List ℕ) (r : Moved) → taken ≡ sixteen 0 (bytes s (at + 2) (k .places)) → put ≡ sixteen 0 (bytes s (at + 2 + k .places) (k .places))
           → r ≡ firingOf (k .places) (weighted (k .places) taken put) m → r ≡ stepOf (reading s) t m
       steps m taken put r u p fires =
           fires
-          ∙ ap₂ (λ (n : ℕ) (w : nets.Transition). firingOf n w m) (sym (ap (λ (k : Counts). k .places) (read-as .2))) (weights-are taken put u p)
+          ∙ ap₂ (λ (n : ℕ) (w : nets.Transition). firingOf n w m) (sym (ap (λ (k : Counts). k .places) (q .counts))) (weights-are taken put u p)
           ∙ sym (numbered m true is-one)

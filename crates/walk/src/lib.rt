@@ -2,6 +2,7 @@
 ghost use mathlib.Core.Path.{_≡_};
 ghost use Prim.Native.Nat.{_≤_};
 ghost use Rattle.format.specs.Reading.{reading};
+ghost use Rattle.sheet.specs.Known.{Known};
 ghost use Rattle.walk.specs.Walk.{beginOf, firingOf, stepOf};
 ghost use Rattle.firing.specs.Weighted.{weighted};
 
@@ -9,6 +10,7 @@ use firing::fired;
 use firing::over;
 use firing::short;
 use reader::Check;
+use reader::Counts;
 use reader::Reading;
 use reader::layout::behind_transitions;
 use reader::read;
@@ -74,17 +76,11 @@ fn firing(m: Marking, taken: [u8; Place::MOST], put: [u8; Place::MOST], n: usize
     }
 }
 
-// The step by value: the marking as it is afterwards, and as it was where the step is refused.
-pub fn step_from(m: Marking, sheet: &[u8], t: Transition) -> Moved
+// The step on a sheet that was read.
+pub fn step_in(m: Marking, sheet: &[u8], counts: Counts, t: Transition) -> Moved
+    requires { ⌜ Known (now sheet) counts ⌝ }
     ensures { λ r. ⌜ r ≡ stepOf (reading (now (sheet .entry))) t m ⌝ }
 {
-    let answer = read(sheet);
-    let Reading::Sound(counts) = answer else {
-        return Moved {
-            answer: answer.check(),
-            marking: m,
-        };
-    };
     let there = among(t.0, counts.transitions);
     if !there {
         return Moved {
@@ -97,6 +93,20 @@ pub fn step_from(m: Marking, sheet: &[u8], t: Transition) -> Moved
     let taken = weights_from(sheet, at + 2, n);
     let put = weights_from(sheet, at + 2 + n, n);
     firing(m, taken, put, n)
+}
+
+// The step by value: the marking as it is afterwards, and as it was where the step is refused.
+pub fn step_from(m: Marking, sheet: &[u8], t: Transition) -> Moved
+    ensures { λ r. ⌜ r ≡ stepOf (reading (now (sheet .entry))) t m ⌝ }
+{
+    let answer = read(sheet);
+    let Reading::Sound(counts) = answer else {
+        return Moved {
+            answer: answer.check(),
+            marking: m,
+        };
+    };
+    step_in(m, sheet, counts, t)
 }
 
 // The step of a walk: the marking is lent, and moved on.
