@@ -4,7 +4,6 @@ ghost use Rattle.format.specs.Reading.{reading};
 ghost use Rattle.reader.specs.Answers.{checkOf, IsMalformed, answerOf};
 
 mod fields; // fields.rt: marks, lengths and fields of one kind
-pub mod layout; // layout.rt: where the records stand
 mod records; // records.rt: one record of each kind
 mod runs; // runs.rt: records of one kind, one after the other
 

@@ -6,11 +6,11 @@ ghost use Rattle.sheet.specs.Part.{IsPart, recordAt, recordBytes};
 
 pub mod rows; // rows.rt: sixteen numbers of one kind
 
+use layout::behind_claims;
+use layout::behind_transitions;
+use layout::target_from;
 use reader::Check;
 use reader::Reading;
-use reader::layout::behind_claims;
-use reader::layout::behind_transitions;
-use reader::layout::target_from;
 use reader::read;
 use rows::numbers_at;
 use rows::tokens_from;

@@ -7,12 +7,12 @@ ghost use Rattle.walk.specs.Weighted.{weighted};
 
 mod places; // places.rt: what a firing does to each place
 
+use layout::behind_transitions;
 use places::fired;
 use places::over;
 use places::short;
 use reader::Check;
 use reader::Reading;
-use reader::layout::behind_transitions;
 use reader::read;
 use sheet::rows::weights_from;
 use sheet::start_of;

@@ -1,11 +1,11 @@
--- `layout::behind_transitions` meets its contract: 64 transitions of 34 bytes are 2,176.
+-- `behind_transitions` meets its contract: 64 transitions of 34 bytes are 2,176.
 use native.Mathlib.Omega.{arith}
 use Prim.Native.Nat.{_+_, _*_, _≤_}
 use mathlib.Core.Path.{refl}
 use native.Mathlib.Nat.{mul-le-mul}
 use borrow.Author.Needs.{needs}
-use Rattle.reader.proofs.layout.behind_transitions.Statement.{statement}
-use Rattle.reader.proofs.layout.behind_transitions.Tie as tie
+use Rattle.layout.proofs.behind_transitions.Statement.{statement}
+use Rattle.layout.proofs.behind_transitions.Tie as tie
 
 size : (c : tie.Start) → 2 + 2 * c .args .n ≤ 34
 size c = omega arith

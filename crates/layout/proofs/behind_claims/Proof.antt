@@ -1,10 +1,10 @@
--- `layout::behind_claims` meets its contract: 32 claims of 20 bytes are 640.
+-- `behind_claims` meets its contract: 32 claims of 20 bytes are 640.
 use native.Mathlib.Omega.{arith}
 use Prim.Native.Nat.{_+_, _*_, _≤_}
 use native.Mathlib.Nat.{mul-le-mul}
 use borrow.Author.Needs.{needs}
-use Rattle.reader.proofs.layout.behind_claims.Statement.{statement}
-use Rattle.reader.proofs.layout.behind_claims.Tie as tie
+use Rattle.layout.proofs.behind_claims.Statement.{statement}
+use Rattle.layout.proofs.behind_claims.Tie as tie
 
 size : (c : tie.After-claims-from) → 4 + c .before .args .n ≤ 20
 size c = omega arith
