@@ -9,12 +9,12 @@ pub mod rows; // rows.rt: sixteen numbers of one kind
 use layout::behind_claims;
 use layout::behind_transitions;
 use layout::target_from;
-use reader::Check;
 use reader::Reading;
 use reader::read;
 use rows::numbers_at;
 use rows::tokens_from;
 use rows::weights_from;
+use terms::Check;
 use terms::Claim;
 use terms::Kind;
 use terms::Place;

@@ -19,13 +19,13 @@ pub mod reduction; // reduction.rt: the reduced form, as numbers
 use layout::behind_claims;
 use multiples::is_multiple;
 use multiples::pivot_of;
-use reader::Check;
 use reader::Counts;
 use reader::Reading;
 use reader::read;
 use reduction::Form;
 use reduction::reduced;
 use sheet::rows::numbers_at;
+use terms::Check;
 use terms::Claim;
 use terms::Place;
 use terms::Refusal;

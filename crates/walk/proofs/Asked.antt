@@ -18,7 +18,7 @@ use Rattle.format.proofs.Places.{Held, held}
 use Rattle.format.proofs.Standing.{length-bytes}
 use Rattle.reader.specs.Answers.{countsOf, answerOf}
 use Rattle.reader.specs.declared.Counts.{Counts}
-use Rattle.reader.specs.declared.Check.the-variants.{Fine, Refused}
+use Rattle.terms.specs.declared.Check.the-variants.{Fine, Refused}
 use Rattle.reader.specs.declared.Reading.the-variants.{Sound}
 use Rattle.sheet.proofs.Taken.{sound-answer, among-some, tc-is, most, weights-fit, weights-taken}
 use Rattle.walk.specs.Walk.{first, firingChecks, firedIn, moved, firingOf, stepOf}

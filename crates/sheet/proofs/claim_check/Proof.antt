@@ -10,7 +10,7 @@ use Rattle.format.specs.Read.{choose}
 use Rattle.format.specs.Reading.{byte, bytes, words, signedWord, transitionIn, targetIn, claimIn, reading}
 use Rattle.format.proofs.Places.{held}
 use Rattle.reader.specs.Answers.{checkOf}
-use Rattle.reader.specs.declared.Check.the-variants.{Fine, Refused}
+use Rattle.terms.specs.declared.Check.the-variants.{Fine, Refused}
 use Rattle.sheet.specs.Held.{claimCheck}
 use Rattle.sheet.proofs.Taken.{sound-answer, refused-answer, c-is}
 use borrow.Author.Needs.{needs}

@@ -7,7 +7,7 @@ use Rattle.format.specs.Reading.{byte, bytes, words, signedWord, transitionIn, 
 use Rattle.format.proofs.Places.{held}
 use Rattle.nets.specs.HalfSpaces.{sixteen}
 use Rattle.reader.specs.Answers.{checkOf}
-use Rattle.reader.specs.declared.Check.the-variants.{Fine}
+use Rattle.terms.specs.declared.Check.the-variants.{Fine}
 use Rattle.sheet.specs.Held.{noStart, startOf}
 use Rattle.sheet.specs.declared.Start.{Start}
 use Rattle.sheet.proofs.Taken.{sound-answer, refused-answer, most, start-fits, start-taken}

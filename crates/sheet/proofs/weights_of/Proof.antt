@@ -14,7 +14,7 @@ use Rattle.format.specs.Read.{choose}
 use Rattle.nets.specs.Nets as nets
 use Rattle.nets.specs.HalfSpaces.{sixteen}
 use Rattle.reader.specs.Answers.{checkOf}
-use Rattle.reader.specs.declared.Check.the-variants.{Fine, Refused}
+use Rattle.terms.specs.declared.Check.the-variants.{Fine, Refused}
 use Rattle.sheet.specs.Held.{noWeights, weightsIn, weightsOf}
 use Rattle.sheet.specs.declared.Weights.{Weights}
 use Rattle.sheet.proofs.Taken.{sound-answer, refused-answer, among-some, tc-is, most, weights-fit, weights-taken}

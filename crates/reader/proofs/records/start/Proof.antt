@@ -2,8 +2,8 @@
 use mathlib.Core.Path.{_≡_, _∙_, sym, ap}
 use Prim.Native.Nat.{_+_, _*_}
 use Rattle.format.specs.Reading.{byte, words, transitionIn, targetIn, claimIn, signedWord, eachFits, markedAt, wholeAt, openedAt, headOf, transitionAt, startAt, targetAt, claimAt, claimDue}
-use Rattle.reader.specs.Answers.{checked}
-use Rattle.reader.proofs.Checks.{stop-then, go-then, then-sound, opened-fits, whole-fits}
+use Rattle.fields.specs.Checked.{checked}
+use Rattle.fields.proofs.Checks.{stop-then, go-then, then-sound, opened-fits, whole-fits}
 use borrow.Author.Needs.{needs}
 use Rattle.reader.proofs.records.start.Statement.{statement}
 use Rattle.reader.proofs.records.start.Tie as tie

@@ -6,8 +6,8 @@ use lib.Dec.{ltb}
 use borrow.Author.Tests.{le-ltb, lt-ltb}
 use Rattle.format.specs.Read.{_>>_, need}
 use Rattle.format.specs.Reading.{markedAt, claimAt, claimDue}
-use Rattle.reader.specs.Answers.{checked}
-use Rattle.reader.proofs.Checks.{stop-then, go-then}
+use Rattle.fields.specs.Checked.{checked}
+use Rattle.fields.proofs.Checks.{stop-then, go-then}
 use borrow.Author.Needs.{needs}
 use Rattle.reader.proofs.runs.claim_due.Statement.{statement}
 use Rattle.reader.proofs.runs.claim_due.Tie as tie

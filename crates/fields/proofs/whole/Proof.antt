@@ -1,12 +1,12 @@
--- `fields::whole` meets its contract: what is left from `at` on is the length less `at`.
+-- `whole` meets its contract: what is left from `at` on is the length less `at`.
 use borrow.Author.Tests.{lt-leb, le-leb, eq-eqb, ne-eqb}
 use native.Mathlib.Omega.{arith}
 use Prim.Native.Nat.{_+_}
 use lib.ListN.{length, getD}
 use borrow.Author.Needs.{needs}
 use Rattle.format.specs.Reading.{wholeAt}
-use Rattle.reader.proofs.fields.whole.Statement.{statement}
-use Rattle.reader.proofs.fields.whole.Tie as tie
+use Rattle.fields.proofs.whole.Statement.{statement}
+use Rattle.fields.proofs.whole.Tie as tie
 
 sub-if1 : tie.Need-sub-if1
 sub-if1 c = search needs

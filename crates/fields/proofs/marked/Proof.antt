@@ -1,12 +1,12 @@
--- `fields::marked` meets its contract: at each return the tests on the way are those of the definition.
+-- `marked` meets its contract: at each return the tests on the way are those of the definition.
 use borrow.Author.Tests.{le-leb, lt-leb, eq-eqb, ne-eqb}
 use native.Mathlib.Omega.{arith}
 use Prim.Native.Nat.{_+_}
 use lib.ListN.{length}
 use Rattle.format.specs.Reading.{byte, markedAt}
 use borrow.Author.Needs.{needs}
-use Rattle.reader.proofs.fields.marked.Statement.{statement}
-use Rattle.reader.proofs.fields.marked.Tie as tie
+use Rattle.fields.proofs.marked.Statement.{statement}
+use Rattle.fields.proofs.marked.Tie as tie
 
 sub-if1 : tie.Need-sub-if1
 sub-if1 c = search needs

@@ -1,11 +1,11 @@
--- `fields::opened` meets its contract: the mark's refusal stops it, and behind a mark the length decides.
+-- `opened` meets its contract: the mark's refusal stops it, and behind a mark the length decides.
 use mathlib.Core.Path.{_∙_, sym, ap}
 use Rattle.format.specs.Reading.{markedAt, wholeAt, openedAt}
-use Rattle.reader.specs.Answers.{checked}
-use Rattle.reader.proofs.Checks.{stop-then, go-then}
+use Rattle.fields.specs.Checked.{checked}
+use Rattle.fields.proofs.Checks.{stop-then, go-then}
 use borrow.Author.Needs.{needs}
-use Rattle.reader.proofs.fields.opened.Statement.{statement}
-use Rattle.reader.proofs.fields.opened.Tie as tie
+use Rattle.fields.proofs.opened.Statement.{statement}
+use Rattle.fields.proofs.opened.Tie as tie
 
 marked-requires : tie.Need-marked-requires
 marked-requires c κs = search needs

@@ -7,8 +7,8 @@ ghost use Rattle.terms.specs.Limits.{weightFits, coefficientFits, constantFits}
 ghost use Rattle.terms.specs.Refusals.{refusedAt};
 ghost use Rattle.format.specs.Read.{need};
 ghost use Rattle.format.specs.Reading.{markedAt, wholeAt, openedAt, eachFits, signedWord};
-ghost use Rattle.reader.specs.Answers.{checked};
-use super::Check;
+ghost use Rattle.fields.specs.Checked.{checked};
+use terms::Check;
 use terms::Coefficient;
 use terms::Constant;
 use terms::Refusal;

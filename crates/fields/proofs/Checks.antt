@@ -8,9 +8,9 @@ use Rattle.terms.specs.declared.Refusal.{Refusal}
 use Rattle.format.specs.Read.{Read, sound, refused, _>>=_, _>>_}
 use Rattle.format.specs.Reading.{wholeAt, openedAt}
 use Rattle.format.proofs.Sound.{whole-sound, opened-sound}
-use Rattle.reader.specs.Answers.{checked}
-use Rattle.reader.specs.declared.Check.{Check}
-use Rattle.reader.specs.declared.Check.the-variants.{Fine, Refused}
+use Rattle.fields.specs.Checked.{checked}
+use Rattle.terms.specs.declared.Check.{Check}
+use Rattle.terms.specs.declared.Check.the-variants.{Fine, Refused}
 
 pub fine-not-refused : {r : Refusal} → Fine ≡ Refused r → ⊥
 fine-not-refused {r} e = let z : _≡_ {A = ℕ} 0 1 = cc in omega arith

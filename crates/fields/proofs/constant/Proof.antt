@@ -1,4 +1,4 @@
--- `fields::constant` meets its contract: the test is that of the number that the two bytes stand for.
+-- `constant` meets its contract: the test is that of the number that the two bytes stand for.
 use mathlib.Core.Path.{_≡_, _∙_, sym, ap}
 use mathlib.Core.Bool.{true, false}
 use borrow.Author.Tests.{not-true, not-false}
@@ -6,8 +6,8 @@ use Prim.Native.Nat.{_+_}
 use Rattle.terms.specs.Limits.{constantFits}
 use Rattle.format.specs.Reading.{signedWord}
 use borrow.Author.Needs.{needs}
-use Rattle.reader.proofs.fields.constant.Statement.{statement}
-use Rattle.reader.proofs.fields.constant.Tie as tie
+use Rattle.fields.proofs.constant.Statement.{statement}
+use Rattle.fields.proofs.constant.Tie as tie
 
 shared-slice-read-of-bytes : tie.Need-shared-slice-read-of-bytes
 shared-slice-read-of-bytes c = search needs
