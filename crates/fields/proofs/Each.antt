@@ -1,11 +1,11 @@
 -- Fields of one kind, one at a time: what is left to read at a byte is that byte's test and what is left behind it.
-use mathlib.Core.Path.{_≡_, refl}
+use mathlib.Core.Path.{_≡_}
 use mathlib.Core.Bool.{Bool, true, false}
 use mathlib.Core.List.{List}
 use Prim.Native.Nat.{ℕ, suc, _+_, _-_, _≤_, _<_}
 use native.Mathlib.Omega.{arith}
 use Rattle.terms.specs.Refusals.{refusedAt}
-use Rattle.format.specs.Read.{Read, sound, refused}
+use Rattle.format.specs.Read.{sound, refused}
 use Rattle.format.specs.Reading.{byte, eachFits}
 
 module _ (fits : ℕ → Bool) (number : ℕ) (s : List ℕ) (at end : ℕ) where

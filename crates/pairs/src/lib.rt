@@ -21,7 +21,7 @@ use lent::wipe;
 use reader::Counts;
 use reader::Reading;
 use reader::read;
-use sheet::rows::numbers_at;
+use rows::numbers_at;
 use terms::Area;
 use terms::Check;
 use terms::Claim;

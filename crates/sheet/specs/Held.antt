@@ -1,7 +1,7 @@
 -- What the calls answer for what a sheet holds: the sheet's refusal, then 11 or 12, then the numbers, sixteen of them and zero beyond place n.
-use mathlib.Core.List.{List, []}
+use mathlib.Core.List.{[]}
 use Prim.Native.Nat.{ℕ}
-use lib.IntN.{ℤ, pos}
+use lib.IntN.{pos}
 use lib.ListN.{length}
 use Rattle.terms.specs.Limits.{among}
 use Rattle.terms.specs.Refusals.{notAClaim, notATransition}

@@ -3,9 +3,6 @@ ghost use mathlib.Core.Path.{_≡_};
 ghost use Rattle.format.specs.Reading.{reading};
 ghost use Rattle.sheet.specs.Held.{claimCheck, weightsOf, startOf, targetOf, halfSpaceOf, noWeights, noHalfSpace};
 ghost use Rattle.sheet.specs.Part.{IsPart, recordAt, recordBytes};
-
-pub mod rows; // rows.rt: sixteen numbers of one kind
-
 use layout::behind_claims;
 use layout::behind_transitions;
 use layout::target_from;

@@ -24,7 +24,7 @@ use reader::Reading;
 use reader::read;
 use reduction::Form;
 use reduction::reduced;
-use sheet::rows::numbers_at;
+use rows::numbers_at;
 use terms::Check;
 use terms::Claim;
 use terms::Place;

@@ -20,7 +20,7 @@ use layout::behind_transitions;
 use layout::target_from;
 use pairs::crossing::crossing_of;
 use reader::Counts;
-use sheet::rows::numbers_at;
+use rows::numbers_at;
 use terms::Place;
 use terms::Transition;
 

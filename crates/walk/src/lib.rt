@@ -13,7 +13,7 @@ use places::over;
 use places::short;
 use reader::Reading;
 use reader::read;
-use sheet::rows::weights_from;
+use rows::weights_from;
 use sheet::start_of;
 use terms::Check;
 use terms::Place;

@@ -2,7 +2,6 @@
 use mathlib.Core.Path.{_≡_, _∙_, sym, ap}
 use mathlib.Core.Bool.{true, false}
 use borrow.Author.Tests.{not-true, not-false}
-use Prim.Native.Nat.{_+_}
 use Rattle.terms.specs.Limits.{constantFits}
 use Rattle.format.specs.Reading.{signedWord}
 use borrow.Author.Needs.{needs}

@@ -1,8 +1,8 @@
 -- `whole` meets its contract: what is left from `at` on is the length less `at`.
-use borrow.Author.Tests.{lt-leb, le-leb, eq-eqb, ne-eqb}
+use borrow.Author.Tests.{lt-leb, le-leb}
 use native.Mathlib.Omega.{arith}
 use Prim.Native.Nat.{_+_}
-use lib.ListN.{length, getD}
+use lib.ListN.{length}
 use borrow.Author.Needs.{needs}
 use Rattle.format.specs.Reading.{wholeAt}
 use Rattle.fields.proofs.whole.Statement.{statement}

@@ -1,6 +1,6 @@
 -- `behind_claims` meets its contract: 32 claims of 20 bytes are 640.
 use native.Mathlib.Omega.{arith}
-use Prim.Native.Nat.{_+_, _*_, _≤_}
+use Prim.Native.Nat.{_+_, _≤_}
 use native.Mathlib.Nat.{mul-le-mul}
 use borrow.Author.Needs.{needs}
 use Rattle.layout.proofs.behind_claims.Statement.{statement}

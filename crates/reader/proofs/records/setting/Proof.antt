@@ -1,8 +1,7 @@
 -- `records::setting` meets its contract: the transitions stop it, then the start does, and then the target decides.
-use mathlib.Core.Path.{_≡_, refl, _∙_, sym, ap}
+use mathlib.Core.Path.{_≡_, _∙_, sym, ap}
 use native.Mathlib.Omega.{arith}
-use Prim.Native.Nat.{ℕ, _+_, _*_, _≤_}
-use lib.ListN.{length}
+use Prim.Native.Nat.{ℕ}
 use Rattle.format.specs.Read.{sound, _>>=_}
 use Rattle.format.specs.Reading.{sizeOf, transitionsAt, transitionsFrom, startAt, startFrom, targetAt, targetFrom, settingOf}
 use Rattle.format.proofs.Sound.{start-sound}

@@ -1,9 +1,9 @@
 -- `runs::transitions` meets its contract: what was to be read behind the head is what is left to read at `at`.
-use mathlib.Core.Path.{_≡_, _∙_, sym, ap}
+use mathlib.Core.Path.{_≡_, _∙_, sym}
 use native.Mathlib.Omega.{arith}
-use Prim.Native.Nat.{_+_, _*_, _-_, _≤_}
+use Prim.Native.Nat.{_-_, _≤_}
 use lib.ListN.{length}
-use Rattle.format.specs.Reading.{transitionAt, transitionsAt, transitionSize}
+use Rattle.format.specs.Reading.{transitionAt, transitionsAt}
 use Rattle.format.proofs.Sound.{transition-sound}
 use Rattle.fields.specs.Checked.{checked}
 use Rattle.fields.proofs.Checks.{fine}

@@ -1,12 +1,12 @@
 -- Sixteen numbers filled from the front: after i turns the first i stand there and the rest is zero, so after the last turn it is the whole row.
 use mathlib.Core.Path.{_≡_, refl, sym, ap, _∙_}
-use mathlib.Core.List.{List, [], _∷_, _++_, append-assoc, append-nil, map}
+use mathlib.Core.List.{List, _++_, append-assoc, append-nil, map}
 use Prim.Native.Nat.{ℕ, zero, suc, _+_, _-_, _*_, _≤_, _<_}
 use native.Mathlib.Numerals.{add-one}
 use native.Mathlib.Omega.{arith}
 use lib.ListN.{length, getD, take, set, replicate, length-map, List·getD-map}
 use lib.Seq.{take-suc, take-all, length-take-le, set-at}
-use lib.IntN.{ℤ, pos}
+use lib.IntN.{pos}
 use Rattle.signed.specs.Twos.{twos8}
 use Rattle.nets.specs.HalfSpaces.{sixteen}
 use Rattle.format.specs.Reading.{byte, word, bytes, words}

@@ -1,9 +1,9 @@
--- `rows::two_bytes` meets its contract: two bytes are below 65,536 together.
+-- `two_bytes` meets its contract: two bytes are below 65,536 together.
 use native.Mathlib.Omega.{arith}
 use Prim.Native.Nat.{_+_}
 use borrow.Author.Needs.{needs}
-use Rattle.sheet.proofs.rows.two_bytes.Statement.{statement}
-use Rattle.sheet.proofs.rows.two_bytes.Tie as tie
+use Rattle.rows.proofs.two_bytes.Statement.{statement}
+use Rattle.rows.proofs.two_bytes.Tie as tie
 
 shared-slice-read-result : tie.Need-shared-slice-read-result
 shared-slice-read-result c = search needs

@@ -1,13 +1,13 @@
--- `rows::tokens_from` meets its contract: after p turns the first p numbers stand there.
+-- `tokens_from` meets its contract: after p turns the first p numbers stand there.
 use mathlib.Core.Path.{_≡_, refl, _∙_, sym, ap}
 use native.Mathlib.Omega.{arith}
-use Prim.Native.Nat.{_+_, _*_, _-_, _≤_}
-use lib.ListN.{length, set}
-use Rattle.format.specs.Reading.{byte, word, bytes, words}
-use Rattle.sheet.proofs.Filled.{filled, filled-step, filled-all, length-words, word-in}
+use Prim.Native.Nat.{_-_, _≤_}
+use lib.ListN.{set}
+use Rattle.format.specs.Reading.{words}
+use Rattle.rows.proofs.Filled.{filled, filled-step, filled-all, length-words, word-in}
 use borrow.Author.Needs.{needs}
-use Rattle.sheet.proofs.rows.tokens_from.Statement.{statement}
-use Rattle.sheet.proofs.rows.tokens_from.Tie as tie
+use Rattle.rows.proofs.tokens_from.Statement.{statement}
+use Rattle.rows.proofs.tokens_from.Tie as tie
 
 abbrev Inv-loop : tie.InvT-loop
 Inv-loop s at n row₀ p₀ row p = (p ≤ n) × (row ≡ filled 0 (words s at n) p)

@@ -1,14 +1,14 @@
--- `rows::weights_from` meets its contract: after p turns the first p numbers stand there.
-use mathlib.Core.Path.{_≡_, refl, _∙_, sym, ap}
+-- `weights_from` meets its contract: after p turns the first p numbers stand there.
+use mathlib.Core.Path.{_≡_, refl, _∙_, ap}
 use native.Mathlib.Omega.{arith}
-use Prim.Native.Nat.{_+_, _*_, _-_, _≤_}
-use lib.ListN.{length, set}
-use Rattle.format.specs.Reading.{byte, word, bytes, words}
+use Prim.Native.Nat.{_+_, _-_, _≤_}
+use lib.ListN.{set}
+use Rattle.format.specs.Reading.{byte, bytes}
 use Rattle.format.proofs.Standing.{length-bytes, byte-in}
-use Rattle.sheet.proofs.Filled.{filled, filled-step, filled-all}
+use Rattle.rows.proofs.Filled.{filled, filled-step, filled-all}
 use borrow.Author.Needs.{needs}
-use Rattle.sheet.proofs.rows.weights_from.Statement.{statement}
-use Rattle.sheet.proofs.rows.weights_from.Tie as tie
+use Rattle.rows.proofs.weights_from.Statement.{statement}
+use Rattle.rows.proofs.weights_from.Tie as tie
 
 abbrev Inv-loop : tie.InvT-loop
 Inv-loop s at n row₀ p₀ row p = (p ≤ n) × (row ≡ filled 0 (bytes s at n) p)

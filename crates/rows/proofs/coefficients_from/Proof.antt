@@ -1,10 +1,10 @@
--- `rows::coefficients_from` meets its contract: after p turns the first p numbers stand there.
+-- `coefficients_from` meets its contract: after p turns the first p numbers stand there.
 use mathlib.Core.Path.{_≡_, refl, _∙_, sym, ap}
 use native.Mathlib.Omega.{arith}
-use Prim.Native.Nat.{_+_, _*_, _-_, _≤_}
-use lib.ListN.{length, set}
-use Rattle.format.specs.Reading.{byte, word, bytes, words}
-use Rattle.sheet.proofs.Filled.{filled, filled-step, filled-all, length-signed, signed-in}
+use Prim.Native.Nat.{_-_, _≤_}
+use lib.ListN.{set}
+use Rattle.format.specs.Reading.{bytes}
+use Rattle.rows.proofs.Filled.{filled, filled-step, filled-all, length-signed, signed-in}
 use mathlib.Core.List.{map}
 use lib.IntN.{ℤ, pos}
 use mir.Syntax.{w8}
@@ -12,8 +12,8 @@ use mir.Val.{toZ, ofZ, SFits}
 use mir.Facts.{toZ-ofZ}
 use Rattle.signed.specs.Twos.{twos8}
 use borrow.Author.Needs.{needs}
-use Rattle.sheet.proofs.rows.coefficients_from.Statement.{statement}
-use Rattle.sheet.proofs.rows.coefficients_from.Tie as tie
+use Rattle.rows.proofs.coefficients_from.Statement.{statement}
+use Rattle.rows.proofs.coefficients_from.Tie as tie
 
 abbrev Inv-loop : tie.InvT-loop
 Inv-loop s at n row₀ p₀ row p = (p ≤ n) × (row ≡ filled (pos 0) (map twos8 (bytes s at n)) p)

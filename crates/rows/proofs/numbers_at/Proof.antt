@@ -1,4 +1,4 @@
--- `rows::numbers_at` meets its contract: the coefficients stand behind the mark, and the constant behind them.
+-- `numbers_at` meets its contract: the coefficients stand behind the mark, and the constant behind them.
 use mathlib.Core.Path.{_≡_, ap, _∙_}
 use Prim.Native.Nat.{ℕ, _+_}
 use native.Mathlib.Omega.{arith}
@@ -8,8 +8,8 @@ use mir.Facts.{toZ-ofZ}
 use Rattle.signed.specs.Twos.{twos16}
 use Rattle.format.specs.Reading.{byte}
 use borrow.Author.Needs.{needs}
-use Rattle.sheet.proofs.rows.numbers_at.Statement.{statement}
-use Rattle.sheet.proofs.rows.numbers_at.Tie as tie
+use Rattle.rows.proofs.numbers_at.Statement.{statement}
+use Rattle.rows.proofs.numbers_at.Tie as tie
 
 add-coefficients-from : tie.Need-add-coefficients-from
 add-coefficients-from c = search needs
