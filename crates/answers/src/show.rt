@@ -1,6 +1,6 @@
 // What each call answers, in words.
-use reader::Check;
 use reader::Reading;
+use terms::Check;
 use terms::Claim;
 use terms::Kind;
 use terms::Place;

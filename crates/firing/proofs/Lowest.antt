@@ -8,8 +8,8 @@ use native.Mathlib.Omega.{arith}
 use Rattle.terms.specs.declared.Place.{Place}
 use Rattle.terms.specs.declared.Refusal.{Refusal}
 use Rattle.format.specs.Read.{choose}
-use Rattle.reader.specs.declared.Check.{Check}
-use Rattle.reader.specs.declared.Check.the-variants.{Fine, Refused}
+use Rattle.terms.specs.declared.Check.{Check}
+use Rattle.terms.specs.declared.Check.the-variants.{Fine, Refused}
 use Rattle.firing.specs.Firing.{lowest}
 use Rattle.firing.specs.Table.{IsLowest}
 

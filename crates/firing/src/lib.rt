@@ -3,10 +3,10 @@ ghost use mathlib.Core.Path.{_≡_};
 ghost use Prim.Native.Nat.{_≤_};
 ghost use lib.ListN.{take};
 ghost use Rattle.nets.specs.Nets.{fire};
-ghost use Rattle.reader.specs.declared.Check.the-variants.{Fine};
+ghost use Rattle.terms.specs.declared.Check.the-variants.{Fine};
 ghost use Rattle.firing.specs.Firing.{lowestShort, lowestOver, firedIn};
 ghost use Rattle.firing.specs.Weighted.{weighted};
-use reader::Check;
+use terms::Check;
 use terms::Place;
 use terms::Refusal;
 

@@ -17,9 +17,9 @@ use Rattle.nets.specs.Nets as nets
 use Rattle.format.specs.Read.{Read, sound, refused, _>>=_, _>>_, need, choose}
 use Rattle.format.specs.Contents.{Contents}
 use Rattle.format.specs.Reading.{byte, signedWord, markedAt, wholeAt, openedAt, eachFits, headSize, transitionSize, startSize, targetSize, claimSize, Size, headOf, transitionAt, transitionsAt, startAt, targetAt, claimAt, claimDue, claimsAt, transitionsFrom, startFrom, targetFrom, claimsFrom, settingOf, claimsOf, reading}
-use Rattle.reader.specs.Answers.{checked}
-use Rattle.reader.specs.declared.Check.{Check}
-use Rattle.reader.specs.declared.Check.the-variants.{Fine, Refused}
+use Rattle.fields.specs.Checked.{checked}
+use Rattle.terms.specs.declared.Check.{Check}
+use Rattle.terms.specs.declared.Check.the-variants.{Fine, Refused}
 use Rattle.sheet.specs.Held.{claimCheck, transitionCheck, weightsOf, weightsIn, noWeights}
 use Rattle.pairs.specs.Pairs.{pairCheck}
 use Rattle.verdicts.specs.Judged.{verdictCheck}

@@ -2,8 +2,8 @@
 ghost use mathlib.Core.Path.{_≡_};
 ghost use Rattle.format.specs.Reading.{reading};
 ghost use Rattle.sheet.specs.Part.{recordAt};
+use layout::behind_claims;
 use reader::Reading;
-use reader::layout::behind_claims;
 use reader::read;
 use terms::Claim;
 use terms::among;

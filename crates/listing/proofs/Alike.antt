@@ -12,8 +12,8 @@ use Rattle.nets.specs.Verdicts.{Verdict, start-outside, target-inside, broken, 
 use Rattle.nets.proofs.OneVerdict.{one-verdict}
 use Rattle.format.specs.Read.{Read, sound, refused}
 use Rattle.format.specs.Contents.{Contents, halfSpace, claim}
-use Rattle.reader.specs.declared.Check.{Check}
-use Rattle.reader.specs.declared.Check.the-variants.{Fine, Refused}
+use Rattle.terms.specs.declared.Check.{Check}
+use Rattle.terms.specs.declared.Check.the-variants.{Fine, Refused}
 use Rattle.twins.proofs.OneAnswer.{one-number}
 use Rattle.lines.specs.Lines.{claimLine}
 use Rattle.listing.specs.declared.Listed.{Listed}

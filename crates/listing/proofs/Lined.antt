@@ -16,7 +16,7 @@ use Rattle.nets.proofs.Vectors.{enabled-length}
 use Rattle.format.specs.Contents.{Contents}
 use Rattle.format.specs.Formed.{IsSheet}
 use Rattle.reader.specs.declared.Counts.{Counts}
-use Rattle.reader.specs.declared.Check.the-variants.{Fine}
+use Rattle.terms.specs.declared.Check.the-variants.{Fine}
 use Rattle.sheet.specs.Known.{Known}
 use Rattle.pairs.proofs.Order.{held-so, both-fit}
 use Rattle.sheet.proofs.Known.{limits, formed-transition, transitions-count}

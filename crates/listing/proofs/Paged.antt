@@ -10,8 +10,8 @@ use borrow.Author.Tests.{le-leb}
 use Rattle.terms.specs.declared.Refusal.{Refusal}
 use Rattle.format.specs.Read.{Read, sound, refused}
 use Rattle.format.specs.Contents.{Contents}
-use Rattle.reader.specs.declared.Check.{Check}
-use Rattle.reader.specs.declared.Check.the-variants.{Fine}
+use Rattle.terms.specs.declared.Check.{Check}
+use Rattle.terms.specs.declared.Check.the-variants.{Fine}
 use Rattle.lines.specs.Lines.{refusalLine}
 use Rattle.listing.specs.declared.Listed.{Listed}
 use Rattle.listing.specs.declared.Listed.the-variants as listed

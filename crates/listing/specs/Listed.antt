@@ -11,8 +11,8 @@ use Rattle.terms.specs.declared.Refusal.{Refusal}
 use Rattle.nets.specs.Verdicts.{Verdict, IsVerdict}
 use Rattle.format.specs.Read.{Read, sound, refused, choose}
 use Rattle.format.specs.Contents.{Contents, halfSpace, claim}
-use Rattle.reader.specs.declared.Check.{Check}
-use Rattle.reader.specs.declared.Check.the-variants.{Fine, Refused}
+use Rattle.terms.specs.declared.Check.{Check}
+use Rattle.terms.specs.declared.Check.the-variants.{Fine, Refused}
 use Rattle.twins.specs.Answers.{IsTwinNumber}
 use Rattle.lines.specs.Lines.{claimLine, countsLine, refusalLine}
 use Rattle.listing.specs.declared.Listed.{Listed}

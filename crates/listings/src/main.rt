@@ -3,7 +3,7 @@
 ghost use Prim.Native.Nat.{_≤_};
 ghost use lib.ListN.{length};
 use listing::page;
-use sheet::rows::two_bytes;
+use rows::two_bytes;
 use terms::Area;
 
 const STDIN: i32 = 0;

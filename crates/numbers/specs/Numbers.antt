@@ -2,8 +2,8 @@
 use Prim.Native.Nat.{ℕ}
 use Rattle.terms.specs.Refusals.{detailOf}
 use Rattle.terms.specs.declared.Refusal.{Refusal}
-use Rattle.reader.specs.declared.Check.{Check}
-use Rattle.reader.specs.declared.Check.the-variants.{Fine, Refused}
+use Rattle.terms.specs.declared.Check.{Check}
+use Rattle.terms.specs.declared.Check.the-variants.{Fine, Refused}
 use Rattle.reader.specs.declared.Reading.{Reading}
 use Rattle.reader.specs.declared.Reading.the-variants.{Sound, Malformed}
 use Rattle.terms.specs.declared.Kind.{Kind}

@@ -2,8 +2,8 @@
 ghost use mathlib.Core.Path.{_≡_};
 ghost use Rattle.numbers.specs.Numbers.{refusalIs, checkIs, readingIs, kindIs, twinIs, pairNumber, pairRefusal, listedIs, verdictNumber, verdictRefusal, verdictTransition};
 use listing::Listed;
-use reader::Check;
 use reader::Reading;
+use terms::Check;
 use terms::Kind;
 use terms::Place;
 use terms::Refusal;

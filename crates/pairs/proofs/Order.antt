@@ -12,8 +12,8 @@ use Rattle.terms.specs.declared.Claim.{Claim}
 use Rattle.terms.specs.declared.Transition.{Transition}
 use Rattle.format.specs.Read.{choose}
 use Rattle.reader.specs.declared.Counts.{Counts}
-use Rattle.reader.specs.declared.Check.{Check}
-use Rattle.reader.specs.declared.Check.the-variants.{Fine, Refused}
+use Rattle.terms.specs.declared.Check.{Check}
+use Rattle.terms.specs.declared.Check.the-variants.{Fine, Refused}
 use Rattle.sheet.proofs.Taken.{among-some}
 use Rattle.pairs.specs.Pairs.{countedCheck}
 

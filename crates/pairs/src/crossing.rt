@@ -6,8 +6,8 @@ ghost use Rattle.format.specs.Reading.{transitionIn};
 ghost use Rattle.pairs.specs.Crosses.{Crosses, Ready, space};
 use super::window::Window;
 use super::window::beside;
+use rows::weights_from;
 use search::find;
-use sheet::rows::weights_from;
 use terms::Place;
 use values::value_at;
 

@@ -15,15 +15,15 @@ mod window; // window.rt: the ends of Theorem 1's window, and the marking beside
 
 use crossing::Crossing;
 use crossing::crossing_of;
+use layout::behind_claims;
+use layout::behind_transitions;
 use lent::wipe;
-use reader::Check;
 use reader::Counts;
 use reader::Reading;
-use reader::layout::behind_claims;
-use reader::layout::behind_transitions;
 use reader::read;
-use sheet::rows::numbers_at;
+use rows::numbers_at;
 use terms::Area;
+use terms::Check;
 use terms::Claim;
 use terms::Place;
 use terms::Refusal;

@@ -9,7 +9,7 @@ use areas::fill16;
 use areas::left8;
 use areas::left16;
 use areas::sizes_of;
-use sheet::rows::two_bytes;
+use rows::two_bytes;
 use show::show_left;
 use show::show_pair;
 use terms::Claim;

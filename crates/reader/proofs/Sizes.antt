@@ -10,13 +10,14 @@ use Rattle.format.specs.Read.{Read, sound, refused}
 use Rattle.format.specs.Reading.{Size, sizeOf, headOf, settingOf, frontOf}
 use Rattle.format.proofs.Sound.{head-sound}
 use Rattle.format.proofs.Places.{sizeIn, front-sound, setting-sound}
-use Rattle.reader.specs.Answers.{checked, sizedOf, frontAnswer}
-use Rattle.reader.specs.declared.Check.{Check}
-use Rattle.reader.specs.declared.Check.the-variants.{Fine, Refused}
+use Rattle.fields.specs.Checked.{checked}
+use Rattle.reader.specs.Answers.{sizedOf, frontAnswer}
+use Rattle.terms.specs.declared.Check.{Check}
+use Rattle.terms.specs.declared.Check.the-variants.{Fine, Refused}
 use Rattle.reader.specs.declared.Extent.{Extent}
 use Rattle.reader.specs.declared.Measured.{Measured}
 use Rattle.reader.specs.declared.Measured.the-variants.{As, Faulty}
-use Rattle.reader.proofs.Checks.{fine, turned}
+use Rattle.fields.proofs.Checks.{fine, turned}
 
 as-not-faulty : {z : Extent} {r : Refusal} → As z ≡ Faulty r → ⊥
 as-not-faulty e = let z : _≡_ {A = ℕ} 0 1 = cc in omega arith

@@ -1,7 +1,6 @@
 -- One turn of each loop over records: what is left to read at a byte is one record, and what is left behind it.
-use mathlib.Core.Path.{_≡_, refl, sym, ap, _∙_}
-use mathlib.Core.Bool.{true, false}
-use mathlib.Core.List.{List, [], _∷_}
+use mathlib.Core.Path.{_≡_, refl, ap}
+use mathlib.Core.List.{List, _∷_}
 use Prim.Native.Nat.{ℕ, zero, suc, _+_, _-_, _≤_, _<_}
 use native.Mathlib.Nat.{add-zero}
 use native.Mathlib.Omega.{arith}
@@ -9,16 +8,16 @@ use lib.ListN.{length}
 use borrow.Author.Tests.{le-leb, lt-leb}
 use Rattle.terms.specs.declared.Refusal.{Refusal}
 use Rattle.nets.specs.Nets.{Transition}
-use Rattle.format.specs.Read.{Read, sound, refused, _>>=_, _>>_}
+use Rattle.format.specs.Read.{Read, sound, refused, _>>=_}
 use Rattle.format.specs.Contents.{Claim}
 use Rattle.format.specs.Reading.{Size, transitionAt, transitionsAt, transitionSize, claimDue, claimsAt, claimSize}
-use Rattle.format.proofs.Sound.{due-sound}
-use Rattle.reader.specs.Answers.{checked, countedOf}
-use Rattle.reader.specs.declared.Check.{Check}
-use Rattle.reader.specs.declared.Check.the-variants.{Fine, Refused}
+use Rattle.fields.specs.Checked.{checked}
+use Rattle.reader.specs.Answers.{countedOf}
+use Rattle.terms.specs.declared.Check.{Check}
+use Rattle.terms.specs.declared.Check.the-variants.{Fine, Refused}
 use Rattle.reader.specs.declared.Reading.{Reading}
 use Rattle.reader.specs.declared.Reading.the-variants.{Sound, Malformed}
-use Rattle.reader.proofs.Checks.{stop-bind, map-sound}
+use Rattle.fields.proofs.Checks.{stop-bind, map-sound}
 
 module _ (s : List ℕ) (n at k t : ℕ) where
   pub transitions-step : (x : Transition) → k < t → transitionAt s n at ≡ sound x → checked (transitionsAt s n at (t - k)) ≡ checked (transitionsAt s n (at + transitionSize n) (t - (k + 1)))

@@ -5,18 +5,13 @@ use Rattle.nets.specs.Verdicts.{Setting}
 use Rattle.format.specs.Read.{Read, sound, refused}
 use Rattle.format.specs.Contents.{Claim, Contents}
 use Rattle.format.specs.Reading.{Size}
-use Rattle.reader.specs.declared.Check.{Check}
-use Rattle.reader.specs.declared.Check.the-variants.{Fine, Refused}
+use Rattle.terms.specs.declared.Check.{Check}
+use Rattle.terms.specs.declared.Check.the-variants.{Fine, Refused}
 use Rattle.reader.specs.declared.Measured.{Measured}
 use Rattle.reader.specs.declared.Measured.the-variants.{As, Faulty}
 use Rattle.reader.specs.declared.Counts.{Counts}
 use Rattle.reader.specs.declared.Reading.{Reading}
 use Rattle.reader.specs.declared.Reading.the-variants.{Sound, Malformed}
-
--- fine, or the refusal
-abbrev pub checked : {A : Type 0} → Read A → Check
-checked (sound a) = Fine
-checked (refused r) = Refused r
 
 -- the net's size as NP says it, or the refusal
 abbrev pub sizedOf : Read Size → Measured

@@ -3,20 +3,13 @@ ghost use mathlib.Core.Path.{_≡_};
 ghost use Rattle.format.specs.Reading.{reading};
 ghost use Rattle.reader.specs.Answers.{checkOf, IsMalformed, answerOf};
 
-mod fields; // fields.rt: marks, lengths and fields of one kind
-pub mod layout; // layout.rt: where the records stand
 mod records; // records.rt: one record of each kind
 mod runs; // runs.rt: records of one kind, one after the other
 
 use records::front;
 use runs::claims;
+use terms::Check;
 use terms::Refusal;
-
-// A part of a sheet is fine, or refused at its first fault.
-pub enum Check {
-    Fine,
-    Refused(Refusal),
-}
 
 // The numbers of places and transitions.
 pub struct Extent {

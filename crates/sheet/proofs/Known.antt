@@ -16,7 +16,7 @@ use Rattle.format.proofs.Places.{Held, held}
 use Rattle.format.proofs.Accepted.{formed}
 use Rattle.reader.specs.declared.Counts.{Counts}
 use Rattle.sheet.specs.Known.{Known}
-use Rattle.sheet.proofs.Filled.{length-signed}
+use Rattle.rows.proofs.Filled.{length-signed}
 use Rattle.sheet.proofs.Taken.{most, weights-fit, weights-taken, claim-fits, claim-taken, start-fits, start-taken, target-fits, target-taken, tc-is, c-is}
 
 pub all-at : {A : Type 0} (P : A → Type 0) (d : A) (xs : List A) (i : ℕ) → i < length xs → All P xs → P (getD xs i d)

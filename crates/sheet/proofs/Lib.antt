@@ -1,4 +1,3 @@
-pub mod Filled
 pub mod Taken
 pub mod Parts
 pub mod Known

@@ -1,5 +1,5 @@
 -- Parts of the caller's slice, from what the answer's cases say: a refused record stands at the start with length 0.
-use mathlib.Core.Path.{_≡_, refl, sym, ap, _∙_}
+use mathlib.Core.Path.{_≡_, sym, ap, _∙_}
 use mathlib.Core.List.{List, []}
 use Prim.Native.Nat.{ℕ, _+_}
 use native.Mathlib.Nat.{add-zero}

@@ -1,7 +1,7 @@
 -- What the calls answer for what a sheet holds: the sheet's refusal, then 11 or 12, then the numbers, sixteen of them and zero beyond place n.
-use mathlib.Core.List.{List, []}
+use mathlib.Core.List.{[]}
 use Prim.Native.Nat.{ℕ}
-use lib.IntN.{ℤ, pos}
+use lib.IntN.{pos}
 use lib.ListN.{length}
 use Rattle.terms.specs.Limits.{among}
 use Rattle.terms.specs.Refusals.{notAClaim, notATransition}
@@ -14,8 +14,8 @@ use Rattle.nets.specs.HalfSpaces.{sixteen}
 use Rattle.nets.specs.Verdicts as verdicts
 use Rattle.format.specs.Read.{Read, sound, refused, choose}
 use Rattle.format.specs.Contents.{Contents, halfSpace, claim}
-use Rattle.reader.specs.declared.Check.{Check}
-use Rattle.reader.specs.declared.Check.the-variants.{Fine, Refused}
+use Rattle.terms.specs.declared.Check.{Check}
+use Rattle.terms.specs.declared.Check.the-variants.{Fine, Refused}
 use Rattle.sheet.specs.declared.Weights.{Weights}
 use Rattle.sheet.specs.declared.Start.{Start}
 use Rattle.sheet.specs.declared.Target.{Target}

@@ -3,18 +3,15 @@ ghost use mathlib.Core.Path.{_≡_};
 ghost use Rattle.format.specs.Reading.{reading};
 ghost use Rattle.sheet.specs.Held.{claimCheck, weightsOf, startOf, targetOf, halfSpaceOf, noWeights, noHalfSpace};
 ghost use Rattle.sheet.specs.Part.{IsPart, recordAt, recordBytes};
-
-pub mod rows; // rows.rt: sixteen numbers of one kind
-
-use reader::Check;
+use layout::behind_claims;
+use layout::behind_transitions;
+use layout::target_from;
 use reader::Reading;
-use reader::layout::behind_claims;
-use reader::layout::behind_transitions;
-use reader::layout::target_from;
 use reader::read;
 use rows::numbers_at;
 use rows::tokens_from;
 use rows::weights_from;
+use terms::Check;
 use terms::Claim;
 use terms::Kind;
 use terms::Place;

@@ -258,3 +258,9 @@ impl Refusal {
         }
     }
 }
+
+// A part of a sheet is fine, or refused at its first fault.
+pub enum Check {
+    Fine,
+    Refused(Refusal),
+}

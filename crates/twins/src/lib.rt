@@ -16,16 +16,16 @@ pub mod euclid; // euclid.rt: greatest common divisors
 mod multiples; // multiples.rt: a claim that is a number of times a form
 pub mod reduction; // reduction.rt: the reduced form, as numbers
 
+use layout::behind_claims;
 use multiples::is_multiple;
 use multiples::pivot_of;
-use reader::Check;
 use reader::Counts;
 use reader::Reading;
-use reader::layout::behind_claims;
 use reader::read;
 use reduction::Form;
 use reduction::reduced;
-use sheet::rows::numbers_at;
+use rows::numbers_at;
+use terms::Check;
 use terms::Claim;
 use terms::Place;
 use terms::Refusal;

@@ -8,7 +8,7 @@ use Rattle.terms.specs.Limits.{among, areasFit}
 use Rattle.terms.specs.Refusals.{notAClaim, smallArea}
 use Rattle.terms.specs.declared.Claim.{Claim}
 use Rattle.reader.specs.declared.Counts.{Counts}
-use Rattle.reader.specs.declared.Check.the-variants.{Fine}
+use Rattle.terms.specs.declared.Check.the-variants.{Fine}
 use Rattle.sheet.proofs.Taken.{among-some}
 use Rattle.nets.specs.Nets.{IsTransition, transition}
 use Rattle.nets.specs.HalfSpaces.{HalfSpace, Inside, Outside, Kept, Broken}

@@ -14,7 +14,7 @@ use Rattle.nets.proofs.Vectors.{at-most-itself}
 use Rattle.nets.proofs.Theorem7.{theorem-7, theorem-7-exact}
 use Rattle.format.specs.Read.{choose}
 use Rattle.format.specs.Reading.{byte, words, targetIn, kindOf}
-use Rattle.sheet.proofs.Filled.{length-words}
+use Rattle.rows.proofs.Filled.{length-words}
 use Rattle.residues.specs.Told.{Says}
 
 -- the written target is a target marking of either kind

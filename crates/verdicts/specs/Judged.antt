@@ -12,8 +12,8 @@ use Rattle.format.specs.Read.{Read, sound, refused, choose}
 use Rattle.format.specs.Contents.{Contents, halfSpace, claim}
 use Rattle.reader.specs.Answers.{countsOf}
 use Rattle.reader.specs.declared.Counts.{Counts}
-use Rattle.reader.specs.declared.Check.{Check}
-use Rattle.reader.specs.declared.Check.the-variants.{Fine, Refused}
+use Rattle.terms.specs.declared.Check.{Check}
+use Rattle.terms.specs.declared.Check.the-variants.{Fine, Refused}
 use Rattle.verdicts.specs.declared.Answer.{Answer}
 use Rattle.verdicts.specs.declared.Answer.the-variants as answers
 use Rattle.verdicts.specs.declared.Judged.{Judged}

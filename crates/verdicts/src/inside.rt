@@ -8,7 +8,7 @@ ghost use Rattle.format.specs.Reading.{words, targetIn};
 ghost use Rattle.pairs.specs.Crosses.{space};
 ghost use Rattle.residues.specs.Told.{Says};
 use residues::signs::some_above;
-use sheet::rows::tokens_from;
+use rows::tokens_from;
 use terms::Place;
 use values::value_of;
 

@@ -15,12 +15,12 @@ pub mod space; // space.rt: the verdict on a half space, and on a claim of a she
 mod transitions; // transitions.rt: the lowest transition that breaks a half space
 
 use lent::wipe;
-use reader::Check;
 use reader::Counts;
 use reader::Reading;
 use reader::read;
 use space::judge_claim;
 use terms::Area;
+use terms::Check;
 use terms::Claim;
 use terms::Place;
 use terms::Refusal;

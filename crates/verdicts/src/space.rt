@@ -15,12 +15,12 @@ use crate::Judged;
 use crate::inside::inside_at;
 use crate::inside::target_inside;
 use crate::transitions::first_broken;
+use layout::behind_claims;
+use layout::behind_transitions;
+use layout::target_from;
 use pairs::crossing::crossing_of;
 use reader::Counts;
-use reader::layout::behind_claims;
-use reader::layout::behind_transitions;
-use reader::layout::target_from;
-use sheet::rows::numbers_at;
+use rows::numbers_at;
 use terms::Place;
 use terms::Transition;
 

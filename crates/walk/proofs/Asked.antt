@@ -15,7 +15,7 @@ use Rattle.format.specs.Read.{choose}
 use Rattle.format.specs.Reading.{bytes, transitionSize, transitionsFrom, reading}
 use Rattle.format.proofs.Standing.{length-bytes}
 use Rattle.reader.specs.declared.Counts.{Counts}
-use Rattle.reader.specs.declared.Check.the-variants.{Fine, Refused}
+use Rattle.terms.specs.declared.Check.the-variants.{Fine, Refused}
 use Rattle.sheet.specs.Known.{Known}
 use Rattle.sheet.proofs.Taken.{among-some}
 use Rattle.sheet.proofs.Known as known

@@ -20,8 +20,8 @@ use Rattle.format.specs.Read.{sound, choose}
 use Rattle.format.specs.Contents.{Contents}
 use Rattle.format.specs.Formed.{FormedTransition, FormedSetting}
 use Rattle.format.proofs.Sound.{places-fit}
-use Rattle.reader.specs.declared.Check.{Check}
-use Rattle.reader.specs.declared.Check.the-variants.{Fine, Refused}
+use Rattle.terms.specs.declared.Check.{Check}
+use Rattle.terms.specs.declared.Check.the-variants.{Fine, Refused}
 use Rattle.sheet.proofs.Known.{all-at}
 use Rattle.sheet.proofs.Taken.{among-some}
 use Rattle.firing.specs.Firing.{isShort, isOver, lowestShort, lowestOver}

@@ -5,8 +5,8 @@ use Prim.Native.Nat.{ℕ}
 use lib.ListN.{take}
 use Rattle.terms.specs.declared.Refusal.{Refusal}
 use Rattle.nets.specs.Nets as nets
-use Rattle.reader.specs.declared.Check.{Check}
-use Rattle.reader.specs.declared.Check.the-variants.{Fine, Refused}
+use Rattle.terms.specs.declared.Check.{Check}
+use Rattle.terms.specs.declared.Check.the-variants.{Fine, Refused}
 use Rattle.firing.specs.Firing.{lowestShort, lowestOver, firedIn}
 use Rattle.walk.specs.Walk.{first, moved, firingOf}
 use Rattle.walk.specs.declared.Marking.{Marking}

@@ -15,8 +15,8 @@ use Rattle.format.specs.Reading.{reading}
 use Rattle.format.specs.Formed.{IsSheet, Formed}
 use Rattle.format.proofs.Accepted.{formed}
 use Rattle.format.proofs.Sound.{places-fit}
-use Rattle.reader.specs.declared.Check.{Check}
-use Rattle.reader.specs.declared.Check.the-variants.{Fine, Refused}
+use Rattle.terms.specs.declared.Check.{Check}
+use Rattle.terms.specs.declared.Check.the-variants.{Fine, Refused}
 use Rattle.firing.specs.Firing.{firedIn}
 use Rattle.walk.specs.Walk.{movedTo, stepOf, beginOf, walked, AllFine}
 use Rattle.firing.specs.Table.{StaysWithin}

@@ -10,8 +10,8 @@ use Rattle.nets.specs.Nets as nets
 use Rattle.nets.specs.HalfSpaces.{sixteen}
 use Rattle.format.specs.Read.{Read, sound, refused, choose}
 use Rattle.format.specs.Contents.{Contents}
-use Rattle.reader.specs.declared.Check.{Check}
-use Rattle.reader.specs.declared.Check.the-variants.{Fine, Refused}
+use Rattle.terms.specs.declared.Check.{Check}
+use Rattle.terms.specs.declared.Check.the-variants.{Fine, Refused}
 use Rattle.firing.specs.Firing.{lowestShort, lowestOver, firedIn}
 use Rattle.walk.specs.declared.Marking.{Marking}
 use Rattle.walk.specs.declared.Begun.{Begun}

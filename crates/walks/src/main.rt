@@ -3,8 +3,8 @@
 // with stands on a line, then each step from the given marking on; a dot ends the walk.
 mod show; // show.rt: answers and markings in words
 
-use sheet::rows::tokens_from;
-use sheet::rows::two_bytes;
+use rows::tokens_from;
+use rows::two_bytes;
 use show::show_begun;
 use show::show_end;
 use show::show_moved;

@@ -1,5 +1,5 @@
 // Answers and markings in words.
-use reader::Check;
+use terms::Check;
 use terms::Place;
 use terms::Refusal;
 use walk::Begun;

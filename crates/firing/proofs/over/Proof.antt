@@ -5,7 +5,7 @@ use Prim.Native.Nat.{_-_, _≤_}
 use lib.ListN.{take}
 use Rattle.terms.specs.Refusals.{tooMany}
 use Rattle.nets.specs.Nets.{fire}
-use Rattle.reader.specs.declared.Check.the-variants.{Refused}
+use Rattle.terms.specs.declared.Check.the-variants.{Refused}
 use Rattle.firing.specs.Firing.{lowest, isOver, lowestOver}
 use Rattle.firing.specs.Weighted.{weighted}
 use Rattle.firing.proofs.Lowest.{found, passed, all-passed}

@@ -6,7 +6,7 @@ use lib.ListN.{length, take}
 use Rattle.format.specs.Read.{Read}
 use Rattle.format.specs.Contents.{Contents}
 use Rattle.format.specs.Reading.{reading}
-use Rattle.reader.specs.declared.Check.the-variants.{Fine}
+use Rattle.terms.specs.declared.Check.the-variants.{Fine}
 use Rattle.listing.specs.Listed.{IsPage, Starts, roomCheck}
 use Rattle.listing.proofs.Paged.{all-fit, page-there, refused-there}
 use borrow.Author.Needs.{needs}

@@ -1,14 +1,14 @@
 -- `claim_record` meets its contract: a refusal gives the part of length 0 at the start, and claim i stands behind the i - 1 before it.
 use mathlib.Core.Path.{_≡_, refl, _∙_, sym, ap}
 use mathlib.Core.Bool.{true, false}
-use mathlib.Core.List.{List, []}
+use mathlib.Core.List.{[]}
 use native.Mathlib.Omega.{arith}
 use borrow.Author.Tests.{not-true, not-false}
-use Prim.Native.Nat.{ℕ, _+_, _*_, _-_, _≤_}
+use Prim.Native.Nat.{ℕ, _+_, _-_}
 use native.Mathlib.Nat.{add-comm}
 use lib.ListN.{length}
 use Rattle.terms.specs.Limits.{among}
-use Rattle.format.specs.Reading.{byte, bytes, words, signedWord, transitionIn, targetIn, claimIn, reading}
+use Rattle.format.specs.Reading.{reading}
 use Rattle.format.proofs.Places.{held}
 use Rattle.format.specs.Read.{choose}
 use Rattle.format.specs.Contents.{claim}

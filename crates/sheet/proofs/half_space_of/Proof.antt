@@ -17,7 +17,7 @@ use Rattle.format.specs.Read.{choose}
 use Rattle.format.specs.Reading.{reading}
 use Rattle.reader.specs.Answers.{checkOf}
 use Rattle.reader.specs.declared.Counts.{Counts}
-use Rattle.reader.specs.declared.Check.the-variants.{Fine, Refused}
+use Rattle.terms.specs.declared.Check.the-variants.{Fine, Refused}
 use Rattle.sheet.specs.Held.{noHalfSpace, halfSpaceIn, halfSpaceOf}
 use Rattle.sheet.specs.Known.{Known}
 use Rattle.sheet.specs.declared.HalfSpace.{HalfSpace}

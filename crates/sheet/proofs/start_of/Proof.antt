@@ -1,13 +1,13 @@
 -- `start_of` meets its contract: the sheet's refusal is passed on, and a sound sheet's start stands behind its transitions.
-use mathlib.Core.Path.{_≡_, refl, _∙_, sym, ap}
+use mathlib.Core.Path.{_∙_, sym, ap}
 use native.Mathlib.Omega.{arith}
 use mathlib.Core.List.{List}
-use Prim.Native.Nat.{ℕ, _+_, _*_, _≤_}
-use Rattle.format.specs.Reading.{byte, bytes, words, signedWord, transitionIn, targetIn, claimIn, reading}
+use Prim.Native.Nat.{ℕ}
+use Rattle.format.specs.Reading.{reading}
 use Rattle.format.proofs.Places.{held}
 use Rattle.nets.specs.HalfSpaces.{sixteen}
 use Rattle.reader.specs.Answers.{checkOf}
-use Rattle.reader.specs.declared.Check.the-variants.{Fine}
+use Rattle.terms.specs.declared.Check.the-variants.{Fine}
 use Rattle.sheet.specs.Held.{noStart, startOf}
 use Rattle.sheet.specs.declared.Start.{Start}
 use Rattle.sheet.proofs.Taken.{sound-answer, refused-answer, most, start-fits, start-taken}

@@ -3,7 +3,7 @@ use mathlib.Core.Path.{_≡_, refl, _∙_, sym, ap, ap₂}
 use native.Mathlib.Omega.{arith}
 use mathlib.Core.List.{List}
 use mathlib.Core.Bool.{Bool, true, false, cond}
-use Prim.Native.Nat.{ℕ, _+_, _*_, _≤_}
+use Prim.Native.Nat.{ℕ, _+_}
 use lib.Dec.{eqb}
 use Rattle.format.specs.Reading.{byte, kindOf, reading}
 use Rattle.format.specs.Read.{choose}
@@ -14,7 +14,7 @@ use Rattle.terms.specs.declared.Kind.the-variants.{Exact, AtOrAbove}
 use Rattle.nets.specs.HalfSpaces.{sixteen}
 use Rattle.nets.specs.Verdicts as verdicts
 use Rattle.reader.specs.Answers.{checkOf}
-use Rattle.reader.specs.declared.Check.the-variants.{Fine}
+use Rattle.terms.specs.declared.Check.the-variants.{Fine}
 use Rattle.sheet.specs.Held.{kindIs, noTarget, targetOf}
 use Rattle.sheet.specs.declared.Target.{Target}
 use Rattle.sheet.proofs.Taken.{sound-answer, refused-answer, most, target-fits, target-taken}

@@ -1,20 +1,20 @@
 -- `weights_of` meets its contract: the sheet's refusal is passed on, then 12, and transition t stands behind the t - 1 before it.
-use mathlib.Core.Path.{_≡_, refl, _∙_, sym, ap, ap₂}
+use mathlib.Core.Path.{_≡_, _∙_, sym, ap, ap₂}
 use mathlib.Core.Bool.{true, false}
 use native.Mathlib.Omega.{arith}
 use borrow.Author.Tests.{not-true, not-false}
 use mathlib.Core.List.{List}
-use Prim.Native.Nat.{ℕ, _+_, _*_, _-_, _≤_}
+use Prim.Native.Nat.{ℕ, _+_, _-_}
 use lib.ListN.{length}
 use Rattle.terms.specs.Limits.{among}
 use Rattle.terms.specs.Refusals.{notATransition}
-use Rattle.format.specs.Reading.{byte, bytes, words, signedWord, transitionIn, targetIn, claimIn, reading}
+use Rattle.format.specs.Reading.{reading}
 use Rattle.format.proofs.Places.{held}
 use Rattle.format.specs.Read.{choose}
 use Rattle.nets.specs.Nets as nets
 use Rattle.nets.specs.HalfSpaces.{sixteen}
 use Rattle.reader.specs.Answers.{checkOf}
-use Rattle.reader.specs.declared.Check.the-variants.{Fine, Refused}
+use Rattle.terms.specs.declared.Check.the-variants.{Fine, Refused}
 use Rattle.sheet.specs.Held.{noWeights, weightsIn, weightsOf}
 use Rattle.sheet.specs.declared.Weights.{Weights}
 use Rattle.sheet.proofs.Taken.{sound-answer, refused-answer, among-some, tc-is, most, weights-fit, weights-taken}

@@ -12,8 +12,8 @@ use Rattle.format.specs.Contents.{Contents}
 use Rattle.format.specs.Reading.{reading}
 use Rattle.format.proofs.Places.{held}
 use Rattle.reader.specs.Answers.{checkOf}
-use Rattle.reader.specs.declared.Check.{Check}
-use Rattle.reader.specs.declared.Check.the-variants.{Fine, Refused}
+use Rattle.terms.specs.declared.Check.{Check}
+use Rattle.terms.specs.declared.Check.the-variants.{Fine, Refused}
 use Rattle.sheet.specs.Held.{claimCheck}
 use Rattle.sheet.proofs.Taken.{sound-answer, refused-answer, among-some, c-is}
 use Rattle.nets.specs.HalfSpaces.{HalfSpace}

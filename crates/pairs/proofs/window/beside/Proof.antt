@@ -6,7 +6,7 @@ use native.Mathlib.Omega.{arith}
 use lib.ListN.{length, getD, set}
 use Rattle.nets.specs.Nets.{_⊞_}
 use Rattle.nets.proofs.Vectors.{length-plus, getD-plus}
-use Rattle.sheet.proofs.Filled.{filled, filled-step, filled-all, sixteen-full}
+use Rattle.rows.proofs.Filled.{filled, filled-step, filled-all, sixteen-full}
 use borrow.Author.Needs.{needs}
 use Rattle.pairs.proofs.window.beside.Statement.{statement}
 use Rattle.pairs.proofs.window.beside.Tie as tie

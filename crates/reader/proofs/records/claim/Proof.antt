@@ -1,13 +1,13 @@
 -- `records::claim` meets its contract: its length stops it, or a coefficient does, or the constant decides.
-use mathlib.Core.Path.{_≡_, _∙_, sym, ap}
+use mathlib.Core.Path.{_∙_, sym, ap}
 use native.Mathlib.Omega.{arith}
-use Prim.Native.Nat.{_+_, _*_}
+use Prim.Native.Nat.{_+_}
 use Rattle.signed.specs.Twos.{twos8}
-use Rattle.terms.specs.Limits.{placesFit, transitionsFit, weightFits, coefficientFits, constantFits, kindFits}
-use Rattle.format.specs.Reading.{byte, words, transitionIn, targetIn, claimIn, signedWord, eachFits, markedAt, wholeAt, openedAt, headOf, transitionAt, startAt, targetAt, claimAt, claimDue}
-use Rattle.format.specs.Read.{Read, sound, refused, _>>_, need}
-use Rattle.reader.specs.Answers.{checked}
-use Rattle.reader.proofs.Checks.{stop-then, go-then, then-sound, opened-fits, whole-fits}
+use Rattle.terms.specs.Limits.{coefficientFits, constantFits}
+use Rattle.format.specs.Reading.{claimIn, signedWord, eachFits, wholeAt, claimAt}
+use Rattle.format.specs.Read.{sound, _>>_, need}
+use Rattle.fields.specs.Checked.{checked}
+use Rattle.fields.proofs.Checks.{stop-then, go-then, then-sound, whole-fits}
 use borrow.Author.Needs.{needs}
 use Rattle.reader.proofs.records.claim.Statement.{statement}
 use Rattle.reader.proofs.records.claim.Tie as tie

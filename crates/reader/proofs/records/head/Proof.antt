@@ -8,7 +8,7 @@ use lib.Dec.{leb}
 use borrow.Author.Tests.{le-leb, lt-leb}
 use Rattle.format.specs.Read.{Read}
 use Rattle.format.specs.Reading.{byte, openedAt, headOf}
-use Rattle.reader.proofs.Checks.{fine, turned, opened-fits}
+use Rattle.fields.proofs.Checks.{fine, turned, opened-fits}
 use borrow.Author.Needs.{needs}
 use Rattle.reader.proofs.records.head.Statement.{statement}
 use Rattle.reader.proofs.records.head.Tie as tie

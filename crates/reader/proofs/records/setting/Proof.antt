@@ -1,14 +1,13 @@
 -- `records::setting` meets its contract: the transitions stop it, then the start does, and then the target decides.
-use mathlib.Core.Path.{_≡_, refl, _∙_, sym, ap}
+use mathlib.Core.Path.{_≡_, _∙_, sym, ap}
 use native.Mathlib.Omega.{arith}
-use Prim.Native.Nat.{ℕ, _+_, _*_, _≤_}
-use lib.ListN.{length}
+use Prim.Native.Nat.{ℕ}
 use Rattle.format.specs.Read.{sound, _>>=_}
 use Rattle.format.specs.Reading.{sizeOf, transitionsAt, transitionsFrom, startAt, startFrom, targetAt, targetFrom, settingOf}
 use Rattle.format.proofs.Sound.{start-sound}
 use Rattle.format.proofs.Places.{transitions-sound}
-use Rattle.reader.specs.Answers.{checked}
-use Rattle.reader.proofs.Checks.{fine, stop-bind, go-bind, map-sound}
+use Rattle.fields.specs.Checked.{checked}
+use Rattle.fields.proofs.Checks.{fine, stop-bind, go-bind, map-sound}
 use borrow.Author.Needs.{needs}
 use Rattle.reader.proofs.records.setting.Statement.{statement}
 use Rattle.reader.proofs.records.setting.Tie as tie

@@ -1,9 +1,8 @@
 -- `records::start` meets its contract: it is fine where it opens.
-use mathlib.Core.Path.{_≡_, _∙_, sym, ap}
+use mathlib.Core.Path.{_∙_, sym}
 use Prim.Native.Nat.{_+_, _*_}
-use Rattle.format.specs.Reading.{byte, words, transitionIn, targetIn, claimIn, signedWord, eachFits, markedAt, wholeAt, openedAt, headOf, transitionAt, startAt, targetAt, claimAt, claimDue}
-use Rattle.reader.specs.Answers.{checked}
-use Rattle.reader.proofs.Checks.{stop-then, go-then, then-sound, opened-fits, whole-fits}
+use Rattle.format.specs.Reading.{words, openedAt, startAt}
+use Rattle.fields.proofs.Checks.{then-sound}
 use borrow.Author.Needs.{needs}
 use Rattle.reader.proofs.records.start.Statement.{statement}
 use Rattle.reader.proofs.records.start.Tie as tie

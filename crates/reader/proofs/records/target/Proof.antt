@@ -1,14 +1,13 @@
 -- `records::target` meets its contract: its opening stops it or its kind decides.
-use mathlib.Core.Path.{_≡_, _∙_, sym, ap}
+use mathlib.Core.Path.{_≡_, _∙_, sym}
 use native.Mathlib.Omega.{arith}
 use mathlib.Core.Bool.{true}
 use Prim.Native.Nat.{_+_, _*_}
 use borrow.Author.Tests.{le-leb, lt-leb}
-use Rattle.terms.specs.Limits.{placesFit, transitionsFit, weightFits, coefficientFits, constantFits, kindFits}
-use Rattle.format.specs.Reading.{byte, words, transitionIn, targetIn, claimIn, signedWord, eachFits, markedAt, wholeAt, openedAt, headOf, transitionAt, startAt, targetAt, claimAt, claimDue}
-use Rattle.format.specs.Read.{Read, sound, refused, _>>_, need}
-use Rattle.reader.specs.Answers.{checked}
-use Rattle.reader.proofs.Checks.{stop-then, go-then, then-sound, opened-fits, whole-fits}
+use Rattle.terms.specs.Limits.{kindFits}
+use Rattle.format.specs.Reading.{byte, targetIn, openedAt, targetAt}
+use Rattle.format.specs.Read.{sound, _>>_, need}
+use Rattle.fields.proofs.Checks.{stop-then, go-then, opened-fits}
 use borrow.Author.Needs.{needs}
 use Rattle.reader.proofs.records.target.Statement.{statement}
 use Rattle.reader.proofs.records.target.Tie as tie

@@ -1,12 +1,12 @@
 -- `records::transition` meets its contract: its opening stops it or its weights decide.
-use mathlib.Core.Path.{_≡_, _∙_, sym, ap}
+use mathlib.Core.Path.{_∙_, sym, ap}
 use native.Mathlib.Omega.{arith}
 use Prim.Native.Nat.{_+_, _*_}
-use Rattle.terms.specs.Limits.{placesFit, transitionsFit, weightFits, coefficientFits, constantFits, kindFits}
-use Rattle.format.specs.Reading.{byte, words, transitionIn, targetIn, claimIn, signedWord, eachFits, markedAt, wholeAt, openedAt, headOf, transitionAt, startAt, targetAt, claimAt, claimDue}
-use Rattle.format.specs.Read.{Read, sound, refused, _>>_, need}
-use Rattle.reader.specs.Answers.{checked}
-use Rattle.reader.proofs.Checks.{stop-then, go-then, then-sound, opened-fits, whole-fits}
+use Rattle.terms.specs.Limits.{weightFits}
+use Rattle.format.specs.Reading.{transitionIn, eachFits, openedAt, transitionAt}
+use Rattle.format.specs.Read.{sound, _>>_}
+use Rattle.fields.specs.Checked.{checked}
+use Rattle.fields.proofs.Checks.{stop-then, go-then, then-sound, opened-fits}
 use borrow.Author.Needs.{needs}
 use Rattle.reader.proofs.records.transition.Statement.{statement}
 use Rattle.reader.proofs.records.transition.Tie as tie

@@ -1,13 +1,10 @@
 -- `runs::claim_due` meets its contract: the mark stops it, then the count does, and then the claim decides.
-use mathlib.Core.Path.{_≡_, refl, _∙_, sym, ap}
 use native.Mathlib.Omega.{arith}
-use Prim.Native.Nat.{_≤_}
 use lib.Dec.{ltb}
 use borrow.Author.Tests.{le-ltb, lt-ltb}
 use Rattle.format.specs.Read.{_>>_, need}
 use Rattle.format.specs.Reading.{markedAt, claimAt, claimDue}
-use Rattle.reader.specs.Answers.{checked}
-use Rattle.reader.proofs.Checks.{stop-then, go-then}
+use Rattle.fields.proofs.Checks.{stop-then, go-then}
 use borrow.Author.Needs.{needs}
 use Rattle.reader.proofs.runs.claim_due.Statement.{statement}
 use Rattle.reader.proofs.runs.claim_due.Tie as tie

@@ -1,13 +1,13 @@
 -- `runs::claims` meets its contract: the claims counted with those left to read at `at` are those of the sheet.
-use mathlib.Core.Path.{_≡_, refl, _∙_, sym, ap}
+use mathlib.Core.Path.{_≡_, _∙_, sym, ap}
 use native.Mathlib.Omega.{arith}
-use Prim.Native.Nat.{ℕ, suc, _+_, _*_, _-_, _≤_, _<_}
+use Prim.Native.Nat.{ℕ, suc, _+_, _-_, _≤_}
 use lib.ListN.{length}
 use borrow.Author.Tests.{le-leb, lt-leb}
 use Rattle.format.specs.Reading.{sizeOf, claimDue, claimsAt, claimsOf, claimsFrom, claimSize}
 use Rattle.format.proofs.Sound.{due-sound}
-use Rattle.reader.specs.Answers.{checked, countedOf}
-use Rattle.reader.proofs.Checks.{fine, turned}
+use Rattle.reader.specs.Answers.{countedOf}
+use Rattle.fields.proofs.Checks.{fine, turned}
 use Rattle.reader.proofs.Turns.{countedFrom, from-none, claims-step, claims-stop, claims-done}
 use borrow.Author.Needs.{needs}
 use Rattle.reader.proofs.runs.claims.Statement.{statement}

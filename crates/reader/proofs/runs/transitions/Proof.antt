@@ -1,12 +1,12 @@
 -- `runs::transitions` meets its contract: what was to be read behind the head is what is left to read at `at`.
-use mathlib.Core.Path.{_≡_, _∙_, sym, ap}
+use mathlib.Core.Path.{_≡_, _∙_, sym}
 use native.Mathlib.Omega.{arith}
-use Prim.Native.Nat.{_+_, _*_, _-_, _≤_}
+use Prim.Native.Nat.{_-_, _≤_}
 use lib.ListN.{length}
-use Rattle.format.specs.Reading.{transitionAt, transitionsAt, transitionSize}
+use Rattle.format.specs.Reading.{transitionAt, transitionsAt}
 use Rattle.format.proofs.Sound.{transition-sound}
-use Rattle.reader.specs.Answers.{checked}
-use Rattle.reader.proofs.Checks.{fine}
+use Rattle.fields.specs.Checked.{checked}
+use Rattle.fields.proofs.Checks.{fine}
 use Rattle.reader.proofs.Turns.{transitions-step, transitions-stop, transitions-done}
 use borrow.Author.Needs.{needs}
 use Rattle.reader.proofs.runs.transitions.Statement.{statement}

@@ -15,7 +15,7 @@ use borrow.Author.Count.{below-more}
 use borrow.Author.Tests.{not-true, not-false}
 use Rattle.signed.specs.Twos.{twos8}
 use Rattle.format.specs.Reading.{bytes}
-use Rattle.sheet.proofs.Filled.{length-signed, signed-in}
+use Rattle.rows.proofs.Filled.{length-signed, signed-in}
 use Rattle.twins.specs.Multiples.{Tells}
 use Rattle.twins.proofs.Scaled.{times, times-at}
 use borrow.Author.Needs.{needs}

@@ -9,7 +9,7 @@ use mir.Facts.{toZ-ofZ}
 use borrow.Author.Needs.{sfits-of}
 use Rattle.signed.specs.Twos.{twos16}
 use Rattle.format.specs.Reading.{byte, claimIn}
-use Rattle.sheet.proofs.Filled.{length-signed, signed-in}
+use Rattle.rows.proofs.Filled.{length-signed, signed-in}
 use Rattle.twins.specs.Multiples.{entry}
 use Rattle.twins.proofs.Common.{size-within}
 use Rattle.twins.proofs.Entries.{entry-row, entry-constant}

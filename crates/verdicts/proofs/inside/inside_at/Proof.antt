@@ -9,7 +9,7 @@ use mir.Facts.{toZ-ofZ, sfits-widen}
 use borrow.Kind.Array.{eSInt, good-length}
 use Rattle.nets.specs.HalfSpaces.{value}
 use Rattle.format.specs.Reading.{words}
-use Rattle.sheet.proofs.Filled.{length-words}
+use Rattle.rows.proofs.Filled.{length-words}
 use Rattle.pairs.specs.Crosses.{space}
 use Rattle.verdicts.proofs.Rows.{value-row, says-inside}
 use borrow.Author.Needs.{needs, sfits-of}
