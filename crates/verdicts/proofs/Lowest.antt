@@ -18,7 +18,7 @@ use Rattle.format.specs.Contents.{Contents}
 use Rattle.format.specs.Formed.{All, IsCoefficient}
 use Rattle.format.specs.Reading.{reading}
 use Rattle.residues.specs.Sums.{sizes, Within}
-use Rattle.pairs.proofs.Bounds.{coefficient-range}
+use Rattle.crossing.proofs.Bounds.{coefficient-range}
 use Rattle.verdicts.specs.Judged.{FirstBroken}
 
 -- the first t transitions keep it

@@ -14,7 +14,7 @@ use Rattle.nets.specs.Nets.{IsTransition, transition}
 use Rattle.nets.specs.HalfSpaces.{HalfSpace, Inside, Outside, Kept, Broken}
 use Rattle.nets.specs.Verdicts.{Setting, TargetInside, Separates, start-outside, target-inside, broken, proof, IsVerdict}
 use Rattle.residues.specs.Told.{Says}
-use Rattle.pairs.specs.Crosses.{Crosses}
+use Rattle.crossing.specs.Crosses.{Crosses}
 use Rattle.pairs.proofs.Order.{held-so, both-fit}
 use Rattle.verdicts.specs.declared.Answer.the-variants as answers
 use Rattle.verdicts.specs.declared.Judged.{Judged}

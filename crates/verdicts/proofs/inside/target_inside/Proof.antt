@@ -7,7 +7,7 @@ use lib.Seq.{length-take-le}
 use mir.Syntax.{w8}
 use mir.Facts.{toZ-ofZ}
 use borrow.Kind.Array.{eSInt, good-length}
-use Rattle.pairs.specs.Crosses.{space}
+use Rattle.crossing.specs.Crosses.{space}
 use Rattle.verdicts.proofs.Order.{holds, fails}
 use Rattle.verdicts.proofs.Targets.{written-inside, exact-outside, above-only, says-so}
 use borrow.Author.Needs.{needs}

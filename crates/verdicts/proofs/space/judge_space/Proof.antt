@@ -16,8 +16,8 @@ use Rattle.format.specs.Reading.{transitionIn, reading}
 use Rattle.format.proofs.ClaimRecord.{sheet-of}
 use Rattle.sheet.proofs.Known.{same-contents, limits, transition-is, start-whole, start-is, target-whole, target-is, transitions-count}
 use Rattle.residues.specs.Told.{Says}
-use Rattle.pairs.specs.Crosses.{space, Crosses}
-use Rattle.pairs.proofs.Asking.{ready}
+use Rattle.crossing.specs.Crosses.{space, Crosses}
+use Rattle.crossing.proofs.Asking.{ready}
 use Rattle.verdicts.specs.declared.Answer.the-variants as answers
 use Rattle.verdicts.specs.declared.Judged.{Judged}
 use Rattle.verdicts.specs.Judged.{Judges, FirstBroken}

@@ -10,7 +10,7 @@ use borrow.Author.Needs.{needs, sfits-of}
 use Rattle.nets.specs.HalfSpaces.{value}
 use Rattle.format.specs.Reading.{transitionIn}
 use Rattle.residues.specs.Told.{Limits, Moves}
-use Rattle.pairs.proofs.Crossed.{taken-range, put-range}
+use Rattle.crossing.proofs.Crossed.{taken-range, put-range}
 use borrow.Author.Needs.{needs}
 use Rattle.verdicts.proofs.transitions.breaks_at.Statement.{statement}
 use Rattle.verdicts.proofs.transitions.breaks_at.Tie as tie

@@ -17,8 +17,8 @@ use Rattle.format.specs.Reading.{reading, transitionIn, transitionsFrom, transi
 use Rattle.format.proofs.ClaimRecord.{sheet-of}
 use Rattle.sheet.proofs.Known.{same-contents, limits, transition-is, transitions-count}
 use Rattle.residues.specs.Told.{IsBroken}
-use Rattle.pairs.specs.Crosses.{space}
-use Rattle.pairs.proofs.Asking.{ready}
+use Rattle.crossing.specs.Crosses.{space}
+use Rattle.crossing.proofs.Asking.{ready}
 use Rattle.verdicts.specs.Judged.{FirstBroken}
 use Rattle.verdicts.proofs.Lowest.{KeptTo, none-yet, one-more, all-kept, found-so, within}
 use Rattle.verdicts.proofs.transitions.first_broken.Statement.{statement}

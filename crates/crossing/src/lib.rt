@@ -3,13 +3,16 @@ ghost use mathlib.Core.Path.{_≡_};
 ghost use lib.ListN.{length, take};
 ghost use Rattle.nets.specs.Window.{low-end, high-end};
 ghost use Rattle.format.specs.Reading.{transitionIn};
-ghost use Rattle.pairs.specs.Crosses.{Crosses, Ready, space};
-use super::window::Window;
-use super::window::beside;
+ghost use Rattle.crossing.specs.Crosses.{Crosses, Ready, space};
+
+mod window; // window.rt: the ends of Theorem 1's window, and the marking beside it
+
 use search::find;
 use sheet::rows::weights_from;
 use terms::Place;
 use values::value_at;
+use window::Window;
+use window::beside;
 
 pub struct Crossing {
     pub hit: bool,

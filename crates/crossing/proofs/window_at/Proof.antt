@@ -1,4 +1,4 @@
--- `crossing::window_at` meets its contract: the ends are made of the constant and the two values.
+-- `window_at` meets its contract: the ends are made of the constant and the two values.
 use mathlib.Core.Path.{_≡_, refl, _∙_, sym, ap, subst}
 use Prim.Native.Nat.{_+_}
 use borrow.Author.Needs.{needs, sfits-of}
@@ -8,10 +8,10 @@ use mir.Val.{toZ, ofZ}
 use mir.Facts.{toZ-ofZ}
 use Rattle.nets.specs.HalfSpaces.{value}
 use Rattle.format.specs.Reading.{bytes}
-use Rattle.pairs.proofs.Crossed.{taken-range, put-range}
+use Rattle.crossing.proofs.Crossed.{taken-range, put-range}
 use borrow.Author.Needs.{needs}
-use Rattle.pairs.proofs.crossing.window_at.Statement.{statement}
-use Rattle.pairs.proofs.crossing.window_at.Tie as tie
+use Rattle.crossing.proofs.window_at.Statement.{statement}
+use Rattle.crossing.proofs.window_at.Tie as tie
 
 -- the two values, read back
 module _ (c : tie.After-value-at2) where

@@ -8,8 +8,8 @@ use Rattle.nets.specs.Nets.{_⊞_}
 use Rattle.nets.proofs.Vectors.{length-plus, getD-plus}
 use Rattle.sheet.proofs.Filled.{filled, filled-step, filled-all, sixteen-full}
 use borrow.Author.Needs.{needs}
-use Rattle.pairs.proofs.window.beside.Statement.{statement}
-use Rattle.pairs.proofs.window.beside.Tie as tie
+use Rattle.crossing.proofs.window.beside.Statement.{statement}
+use Rattle.crossing.proofs.window.beside.Tie as tie
 
 abbrev Inv-loop : tie.InvT-loop
 Inv-loop taken x m₀ p₀ m p = (p ≤ 16) × (m ≡ filled 0 (taken ⊞ x) p)

@@ -9,7 +9,7 @@ use Rattle.nets.specs.Nets.{Marking, Transition}
 use Rattle.nets.specs.HalfSpaces.{HalfSpace, Kept, Shown, sixteen}
 use Rattle.format.specs.Formed.{Row, IsCoefficient, FormedTransition}
 use Rattle.format.specs.Reading.{transitionIn, transitionSize}
-use Rattle.pairs.specs.Range.{Constants}
+use Rattle.crossing.specs.Range.{Constants}
 
 abbrev pub Crosses : HalfSpace → Transition → Bool → List ℕ → Type 0
 Crosses h t true m = (b : Marking) × Shown h t b × (m ≡ sixteen 0 b)

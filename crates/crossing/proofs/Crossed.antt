@@ -18,10 +18,10 @@ use Rattle.format.specs.Formed.{All, Row, IsWeight, IsCoefficient, FormedTransi
 use Rattle.format.specs.Reading.{transitionIn}
 use Rattle.format.proofs.Everywhere.{all-getD}
 use Rattle.search.specs.Searched.{Hit, Best, Without, Ends}
-use Rattle.pairs.specs.Range.{Constants, Values}
-use Rattle.pairs.specs.Crosses.{Ready, space}
-use Rattle.pairs.proofs.Bounds.{value-range}
-use Rattle.pairs.proofs.Rows.{sixteen-plus}
+use Rattle.crossing.specs.Range.{Constants, Values}
+use Rattle.crossing.specs.Crosses.{Ready, space}
+use Rattle.crossing.proofs.Bounds.{value-range}
+use Rattle.crossing.proofs.Rows.{sixteen-plus}
 
 take-at-most : (n : ℕ) (xs : List ℕ) (p : ℕ) → getD (take n xs) p 0 ≤ getD xs p 0
 take-at-most zero xs p = omega arith

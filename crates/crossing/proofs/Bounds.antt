@@ -13,7 +13,7 @@ use Rattle.signed.specs.Parts.{lt-false, le-true}
 use Rattle.terms.specs.Limits.{coefficientFits, constantFits, weightFits}
 use Rattle.nets.specs.HalfSpaces.{value}
 use Rattle.format.specs.Formed.{All, IsCoefficient, IsWeight}
-use Rattle.pairs.specs.Range.{Constants, Values}
+use Rattle.crossing.specs.Range.{Constants, Values}
 
 -- a number that is not below one end and not above the other
 between : (t u : Bool) → cond t false u ≡ true → (t ≡ false) × (u ≡ true)

@@ -4,8 +4,8 @@ use native.Mathlib.Omega.{arith}
 use mir.Facts.{toZ-ofZ, sfits-widen}
 use Rattle.signed.specs.Linear.{linear}
 use Rattle.signed.specs.Parts.{bounds}
-use Rattle.pairs.proofs.window.Window.new.Statement.{statement}
-use Rattle.pairs.proofs.window.Window.new.Tie as tie
+use Rattle.crossing.proofs.window.Window.new.Statement.{statement}
+use Rattle.crossing.proofs.window.Window.new.Tie as tie
 
 cast-w : tie.Need-cast-w
 cast-w c = rw (toZ-ofZ (c .fits .c)) (sfits-widen tt (c .fits .c))

@@ -1,4 +1,4 @@
--- `crossing::crossing_of` meets its contract: what the search finds in the window is a bad marking beside the weights taken, and where it finds nothing none is bad.
+-- `crossing_of` meets its contract: what the search finds in the window is a bad marking beside the weights taken, and where it finds nothing none is bad.
 use mathlib.Core.Path.{_≡_, refl, _∙_, sym, ap, subst}
 use native.Mathlib.Omega.{arith}
 use mathlib.Core.Bool.{Bool, true, false}
@@ -14,11 +14,11 @@ use Rattle.nets.specs.HalfSpaces.{sixteen}
 use Rattle.nets.specs.Window.{low-end, high-end}
 use Rattle.format.specs.Reading.{transitionIn, bytes}
 use Rattle.search.specs.Searched.{Answer, Best, Without}
-use Rattle.pairs.specs.Crosses.{space}
-use Rattle.pairs.proofs.Crossed.{ends, kept-so, row-so, shown-so}
+use Rattle.crossing.specs.Crosses.{space}
+use Rattle.crossing.proofs.Crossed.{ends, kept-so, row-so, shown-so}
 use borrow.Author.Needs.{needs}
-use Rattle.pairs.proofs.crossing.crossing_of.Statement.{statement}
-use Rattle.pairs.proofs.crossing.crossing_of.Tie as tie
+use Rattle.crossing.proofs.crossing_of.Statement.{statement}
+use Rattle.crossing.proofs.crossing_of.Tie as tie
 
 -- the window's ends, read back
 module _ (c : tie.After-window-at) where
