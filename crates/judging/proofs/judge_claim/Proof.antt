@@ -1,4 +1,4 @@
--- `space::judge_claim` meets its contract: the numbers are the claim's.
+-- `judge_claim` meets its contract: the numbers are the claim's.
 use mathlib.Core.Path.{_≡_, _∙_, ap, subst}
 use native.Mathlib.Omega.{arith}
 use lib.ListN.{take}
@@ -11,10 +11,10 @@ use Rattle.format.proofs.ClaimRecord.{sheet-of}
 use Rattle.sheet.proofs.Known.{same-contents, limits, claim-whole, space-is}
 use Rattle.crossing.specs.Crosses.{space}
 use Rattle.crossing.proofs.Asking.{numbers-fit}
-use Rattle.verdicts.specs.Judged.{Judges}
+use Rattle.judging.specs.Judges.{Judges}
 use borrow.Author.Needs.{needs}
-use Rattle.verdicts.proofs.space.judge_claim.Statement.{statement}
-use Rattle.verdicts.proofs.space.judge_claim.Tie as tie
+use Rattle.judging.proofs.judge_claim.Statement.{statement}
+use Rattle.judging.proofs.judge_claim.Tie as tie
 
 space-so : (c : tie.After-struct-told) → space (take (c .before .before .before .before .before .before .before .before .before .args .counts .places) (c .before .before .before .before .numbers-at .result .coefficients)) (toZ w16 (ofZ w16 (c .before .before .before .before .numbers-at .result .constant))) ≡ halfSpace (claim (c .before .before .before .before .before .before .before .before .before .pre .0 .0 .contents) (c .before .before .before .before .before .before .before .before .before .args .i))
 space-so c =

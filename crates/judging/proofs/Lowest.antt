@@ -19,7 +19,7 @@ use Rattle.format.specs.Formed.{All, IsCoefficient}
 use Rattle.format.specs.Reading.{reading}
 use Rattle.residues.specs.Sums.{sizes, Within}
 use Rattle.crossing.proofs.Bounds.{coefficient-range}
-use Rattle.verdicts.specs.Judged.{FirstBroken}
+use Rattle.judging.specs.Judges.{FirstBroken}
 
 -- the first t transitions keep it
 abbrev pub KeptTo : Net → HalfSpace → ℕ → Type 0

@@ -10,7 +10,7 @@ ghost use Rattle.residues.specs.Told.{Told, IsBroken};
 ghost use Rattle.crossing.specs.Range.{Constants};
 ghost use Rattle.crossing.specs.Crosses.{Ready, space};
 ghost use Rattle.sheet.specs.Known.{Known};
-ghost use Rattle.verdicts.specs.Judged.{FirstBroken};
+ghost use Rattle.judging.specs.Judges.{FirstBroken};
 use reader::Counts;
 use reader::layout::behind_transitions;
 use residues::Reach;

@@ -12,8 +12,8 @@ use Rattle.format.specs.Reading.{transitionIn}
 use Rattle.residues.specs.Told.{Limits, Moves}
 use Rattle.crossing.proofs.Crossed.{taken-range, put-range}
 use borrow.Author.Needs.{needs}
-use Rattle.verdicts.proofs.transitions.breaks_at.Statement.{statement}
-use Rattle.verdicts.proofs.transitions.breaks_at.Tie as tie
+use Rattle.judging.proofs.transitions.breaks_at.Statement.{statement}
+use Rattle.judging.proofs.transitions.breaks_at.Tie as tie
 
 -- the values that are handed on
 taken-value : (c : tie.After-value-at) → toZ w32 (ofZ w32 (c .value-at .result)) ≡ value (take (c .before .before .before .args .n) (c .before .before .before .args .k)) (transitionIn (c .before .before .before .args .sheet .now) (c .before .before .before .args .n) (c .before .before .before .args .at) .taken)

@@ -1,4 +1,4 @@
--- `space::judge_space` meets its contract: each question is asked once those before it were answered.
+-- `judge_space` meets its contract: each question is asked once those before it were answered.
 use mathlib.Core.Path.{_≡_, refl, sym, _∙_, subst}
 use mathlib.Core.Bool.{Bool, true}
 use mathlib.Core.List.{List}
@@ -18,13 +18,13 @@ use Rattle.sheet.proofs.Known.{same-contents, limits, transition-is, start-whol
 use Rattle.residues.specs.Told.{Says}
 use Rattle.crossing.specs.Crosses.{space, Crosses}
 use Rattle.crossing.proofs.Asking.{ready}
-use Rattle.verdicts.specs.declared.Answer.the-variants as answers
-use Rattle.verdicts.specs.declared.Judged.{Judged}
-use Rattle.verdicts.specs.Judged.{Judges, FirstBroken}
-use Rattle.verdicts.proofs.Order.{holds, fails, outside-so, target-so, proof-so, broken-so}
+use Rattle.judging.specs.declared.Answer.the-variants as answers
+use Rattle.judging.specs.declared.Judged.{Judged}
+use Rattle.judging.specs.Judges.{Judges, FirstBroken}
+use Rattle.judging.proofs.Answered.{holds, fails, outside-so, target-so, proof-so, broken-so}
 use borrow.Author.Needs.{needs}
-use Rattle.verdicts.proofs.space.judge_space.Statement.{statement}
-use Rattle.verdicts.proofs.space.judge_space.Tie as tie
+use Rattle.judging.proofs.judge_space.Statement.{statement}
+use Rattle.judging.proofs.judge_space.Tie as tie
 
 -- the half space that is judged, by what is true of the contents that the sheet was read as
 abbrev half : tie.Start → spaces.HalfSpace

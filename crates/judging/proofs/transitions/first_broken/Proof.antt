@@ -19,10 +19,10 @@ use Rattle.sheet.proofs.Known.{same-contents, limits, transition-is, transition
 use Rattle.residues.specs.Told.{IsBroken}
 use Rattle.crossing.specs.Crosses.{space}
 use Rattle.crossing.proofs.Asking.{ready}
-use Rattle.verdicts.specs.Judged.{FirstBroken}
-use Rattle.verdicts.proofs.Lowest.{KeptTo, none-yet, one-more, all-kept, found-so, within}
-use Rattle.verdicts.proofs.transitions.first_broken.Statement.{statement}
-use Rattle.verdicts.proofs.transitions.first_broken.Tie as tie
+use Rattle.judging.specs.Judges.{FirstBroken}
+use Rattle.judging.proofs.Lowest.{KeptTo, none-yet, one-more, all-kept, found-so, within}
+use Rattle.judging.proofs.transitions.first_broken.Statement.{statement}
+use Rattle.judging.proofs.transitions.first_broken.Tie as tie
 use borrow.Author.Needs.{needs}
 
 abbrev Inv-loop : tie.InvT-loop

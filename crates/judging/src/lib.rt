@@ -9,20 +9,49 @@ ghost use Rattle.format.specs.Reading.{reading};
 ghost use Rattle.crossing.specs.Range.{Constants};
 ghost use Rattle.crossing.specs.Crosses.{space};
 ghost use Rattle.sheet.specs.Known.{Known};
-ghost use Rattle.verdicts.specs.Judged.{Judges};
-use crate::Answer;
-use crate::Judged;
-use crate::inside::inside_at;
-use crate::inside::target_inside;
-use crate::transitions::first_broken;
+ghost use Rattle.judging.specs.Judges.{Judges, plainJudged};
+
+mod inside; // inside.rt: do the start, or some target marking, lie inside?
+mod transitions; // transitions.rt: the lowest transition that breaks a half space
+
 use crossing::crossing_of;
+use inside::inside_at;
+use inside::target_inside;
 use reader::Counts;
 use reader::layout::behind_claims;
 use reader::layout::behind_transitions;
 use reader::layout::target_from;
 use sheet::rows::numbers_at;
 use terms::Place;
+use terms::Refusal;
 use terms::Transition;
+use transitions::first_broken;
+
+// The four verdicts in their order, or a refusal. Broken names the lowest transition that breaks the claim.
+pub enum Answer {
+    StartOutside,
+    TargetInside,
+    Broken(Transition),
+    Proof,
+    Refused(Refusal),
+}
+
+// The marking is bad where the answer is Broken, and zeros elsewhere.
+pub struct Judged {
+    pub answer: Answer,
+    pub marking: [u16; Place::MOST],
+}
+
+impl Judged {
+    pub fn plain(answer: Answer) -> Judged
+        ensures { λ r. ⌜ r ≡ plainJudged answer ⌝ }
+    {
+        Judged {
+            answer,
+            marking: [0u16; Place::MOST],
+        }
+    }
+}
 
 // The coefficients k and the constant c, against the net, the start and the target of a sound sheet.
 pub fn judge_space(
