@@ -15,7 +15,7 @@ use Rattle.sheet.specs.Part.{recordAt, recordBytes}
 use Rattle.pairs.specs.Pairs.{IsPair}
 use Rattle.pairs.specs.declared.Pair.{Pair}
 use Rattle.verdicts.specs.Judged.{IsJudged}
-use Rattle.verdicts.specs.declared.Judged.{Judged}
+use Rattle.judging.specs.declared.Judged.{Judged}
 use Rattle.twins.specs.Answers.{IsReducedOf, IsTwinOf}
 use Rattle.twins.specs.declared.Reduced.{Reduced}
 use Rattle.twins.specs.declared.Twin.{Twin}

@@ -5,8 +5,8 @@ use Rattle.terms.specs.Refusals.{detailOf}
 use Rattle.terms.specs.declared.Refusal.{Refusal}
 use Rattle.nets.specs.Verdicts.{Verdict, start-outside, target-inside, broken, proof}
 use Rattle.text.specs.Bytes.{chars, decimal}
-use Rattle.verdicts.specs.declared.Answer.{Answer}
-use Rattle.verdicts.specs.declared.Answer.the-variants as answers
+use Rattle.judging.specs.declared.Answer.{Answer}
+use Rattle.judging.specs.declared.Answer.the-variants as answers
 
 abbrev pub newline : List ℕ
 newline = 10 ∷ []

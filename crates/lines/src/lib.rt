@@ -4,12 +4,12 @@ ghost use Prim.Native.Nat.{_+_, _≤_, _<_};
 ghost use lib.ListN.{length, take};
 ghost use Rattle.text.specs.Bytes.{Wrote, chars, decimal};
 ghost use Rattle.lines.specs.Lines.{countsLine, refusedLine, tokensText, twinText, answerText, answerLine, Brief};
+use judging::Answer;
+use judging::Judged;
 use reader::Counts;
 use terms::Place;
 use text::labelled;
 use text::put;
-use verdicts::Answer;
-use verdicts::Judged;
 
 pub fn counts_line(text: &mut [u8], at: usize, counts: Counts) -> usize
     requires { ⌜ at + length (countsLine (counts .places) (counts .transitions) (counts .claims)) ≤ length (now text) ⌝ }

@@ -20,7 +20,7 @@ use Rattle.terms.specs.declared.Check.the-variants.{Fine}
 use Rattle.sheet.specs.Known.{Known}
 use Rattle.pairs.proofs.Order.{held-so, both-fit}
 use Rattle.sheet.proofs.Known.{limits, formed-transition, transitions-count}
-use Rattle.verdicts.specs.Judged.{judgedOf}
+use Rattle.judging.specs.Judges.{judgedOf}
 use Rattle.twins.specs.Answers.{IsTwinNumber}
 use Rattle.lines.specs.Lines.{answerText, verdictText, Brief}
 use Rattle.listing.specs.Listed.{IsLine, AreLines, roomCheck}

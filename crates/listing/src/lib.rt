@@ -12,6 +12,7 @@ ghost use Rattle.pairs.specs.Pairs.{areaAfter};
 ghost use Rattle.text.specs.Bytes.{Wrote};
 ghost use Rattle.lines.specs.Lines.{refusalLine};
 ghost use Rattle.listing.specs.Listed.{IsLine, IsListing, IsListed, IsRefusalText, IsPage, Starts, roomCheck, listingCheck};
+use judging::judge_claim;
 use lent::wipe;
 use lines::claim_line;
 use lines::counts_line;
@@ -24,7 +25,6 @@ use terms::Check;
 use terms::Refusal;
 use terms::Text;
 use twins::first_twin;
-use verdicts::space::judge_claim;
 
 // How long the text is, or a refusal.
 pub enum Listed {

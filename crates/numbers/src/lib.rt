@@ -130,15 +130,15 @@ impl Refused {
         }
     }
 
-    pub fn of_verdict(a: verdicts::Answer) -> Refused
+    pub fn of_verdict(a: judging::Answer) -> Refused
         ensures { λ x. ⌜ x ≡ verdictRefusal a ⌝ }
     {
         match a {
-            verdicts::Answer::StartOutside => Refused::nothing(),
-            verdicts::Answer::TargetInside => Refused::nothing(),
-            verdicts::Answer::Broken(_) => Refused::nothing(),
-            verdicts::Answer::Proof => Refused::nothing(),
-            verdicts::Answer::Refused(r) => Refused::by(r),
+            judging::Answer::StartOutside => Refused::nothing(),
+            judging::Answer::TargetInside => Refused::nothing(),
+            judging::Answer::Broken(_) => Refused::nothing(),
+            judging::Answer::Proof => Refused::nothing(),
+            judging::Answer::Refused(r) => Refused::by(r),
         }
     }
 }
@@ -182,27 +182,27 @@ pub fn pair_number(a: pairs::Answer) -> u8
     }
 }
 
-pub fn verdict_number(a: verdicts::Answer) -> u8
+pub fn verdict_number(a: judging::Answer) -> u8
     ensures { λ x. ⌜ x ≡ verdictNumber a ⌝ }
 {
     match a {
-        verdicts::Answer::Refused(_) => 0,
-        verdicts::Answer::StartOutside => 1,
-        verdicts::Answer::TargetInside => 2,
-        verdicts::Answer::Broken(_) => 3,
-        verdicts::Answer::Proof => 4,
+        judging::Answer::Refused(_) => 0,
+        judging::Answer::StartOutside => 1,
+        judging::Answer::TargetInside => 2,
+        judging::Answer::Broken(_) => 3,
+        judging::Answer::Proof => 4,
     }
 }
 
-pub fn verdict_transition(a: verdicts::Answer) -> usize
+pub fn verdict_transition(a: judging::Answer) -> usize
     ensures { λ x. ⌜ x ≡ verdictTransition a ⌝ }
 {
     match a {
-        verdicts::Answer::StartOutside => 0,
-        verdicts::Answer::TargetInside => 0,
-        verdicts::Answer::Broken(t) => t.0,
-        verdicts::Answer::Proof => 0,
-        verdicts::Answer::Refused(_) => 0,
+        judging::Answer::StartOutside => 0,
+        judging::Answer::TargetInside => 0,
+        judging::Answer::Broken(t) => t.0,
+        judging::Answer::Proof => 0,
+        judging::Answer::Refused(_) => 0,
     }
 }
 

@@ -1,6 +1,2 @@
-pub mod Bounds
-pub mod Rows
-pub mod Crossed
-pub mod Asking
 pub mod Order
 pub mod Tells

@@ -7,12 +7,8 @@ ghost use Rattle.nets.specs.Nets.{transition};
 ghost use Rattle.format.specs.Read.{sound};
 ghost use Rattle.format.specs.Contents.{Contents, halfSpace, claim};
 ghost use Rattle.format.specs.Reading.{reading};
-ghost use Rattle.pairs.specs.Crosses.{Crosses};
+ghost use Rattle.crossing.specs.Crosses.{Crosses};
 ghost use Rattle.pairs.specs.Pairs.{Asked, IsPair, plainPair, countedCheck, pairCheck, areaAfter};
-
-pub mod crossing; // crossing.rt: a half space and a transition, as numbers
-mod window; // window.rt: the ends of Theorem 1's window, and the marking beside it
-
 use crossing::Crossing;
 use crossing::crossing_of;
 use layout::behind_claims;

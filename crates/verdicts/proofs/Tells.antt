@@ -17,10 +17,11 @@ use Rattle.format.specs.Reading.{reading}
 use Rattle.reader.specs.Answers.{countsOf}
 use Rattle.terms.specs.declared.Check.{Check}
 use Rattle.terms.specs.declared.Check.the-variants.{Fine, Refused}
-use Rattle.verdicts.specs.declared.Answer.{Answer}
-use Rattle.verdicts.specs.declared.Answer.the-variants as answers
-use Rattle.verdicts.specs.declared.Judged.{Judged}
-use Rattle.verdicts.specs.Judged.{plainJudged, judgedOf, Judges, countedCheck, IsJudgedIn, IsJudged}
+use Rattle.judging.specs.declared.Answer.{Answer}
+use Rattle.judging.specs.declared.Answer.the-variants as answers
+use Rattle.judging.specs.declared.Judged.{Judged}
+use Rattle.judging.specs.Judges.{plainJudged, judgedOf, Judges}
+use Rattle.verdicts.specs.Judged.{countedCheck, IsJudgedIn, IsJudged}
 
 answer-of : {r p : Judged} → r ≡ p → r .answer ≡ p .answer
 answer-of e = ap (λ (j : Judged). j .answer) e

@@ -8,50 +8,20 @@ ghost use Rattle.format.specs.Contents.{Contents, halfSpace, claim};
 ghost use Rattle.format.specs.Reading.{reading};
 ghost use Rattle.pairs.specs.Pairs.{areaAfter};
 ghost use Rattle.sheet.specs.Known.{Known};
-ghost use Rattle.verdicts.specs.Judged.{Judges, IsJudged, plainJudged, countedCheck, verdictCheck};
-
-mod inside; // inside.rt: do the start, or some target marking, lie inside?
-pub mod space; // space.rt: the verdict on a half space, and on a claim of a sheet that was read
-mod transitions; // transitions.rt: the lowest transition that breaks a half space
-
+ghost use Rattle.judging.specs.Judges.{Judges};
+ghost use Rattle.verdicts.specs.Judged.{IsJudged, countedCheck, verdictCheck};
+use judging::Answer;
+use judging::Judged;
+use judging::judge_claim;
 use lent::wipe;
 use reader::Counts;
 use reader::Reading;
 use reader::read;
-use space::judge_claim;
 use terms::Area;
 use terms::Check;
 use terms::Claim;
-use terms::Place;
 use terms::Refusal;
-use terms::Transition;
 use terms::among;
-
-// The four verdicts in their order, or a refusal. Broken names the lowest transition that breaks the claim.
-pub enum Answer {
-    StartOutside,
-    TargetInside,
-    Broken(Transition),
-    Proof,
-    Refused(Refusal),
-}
-
-// The marking is bad where the answer is Broken, and zeros elsewhere.
-pub struct Judged {
-    pub answer: Answer,
-    pub marking: [u16; Place::MOST],
-}
-
-impl Judged {
-    fn plain(answer: Answer) -> Judged
-        ensures { λ r. ⌜ r ≡ plainJudged answer ⌝ }
-    {
-        Judged {
-            answer,
-            marking: [0u16; Place::MOST],
-        }
-    }
-}
 
 // The refusals in their order, by the counts of the sheet.
 fn checked(counts: Counts, i: Claim, marks: usize, queue: usize) -> Check

@@ -5,7 +5,6 @@ ghost use Rattle.format.specs.Reading.{reading};
 ghost use Rattle.sheet.specs.Known.{Known};
 ghost use Rattle.walk.specs.Walk.{beginOf, firingOf, stepOf};
 ghost use Rattle.firing.specs.Weighted.{weighted};
-
 use firing::fired;
 use firing::over;
 use firing::short;

@@ -6,7 +6,7 @@ use native.Mathlib.Omega.{arith}
 use lib.ListN.{length, take}
 use Rattle.text.specs.Bytes.{Wrote, chars, decimal}
 use Rattle.text.proofs.Writing.{wrote-then, wrote-nothing}
-use Rattle.verdicts.specs.declared.Answer.{Answer}
+use Rattle.judging.specs.declared.Answer.{Answer}
 use Rattle.lines.specs.Lines.{tokensText, answerText, Brief}
 use Rattle.lines.proofs.Texts.{two-digits}
 use borrow.Author.Needs.{needs}

@@ -8,7 +8,7 @@ use Rattle.format.specs.Contents.{Contents, halfSpace, claim}
 use Rattle.format.proofs.ClaimRecord.{sheet-of}
 use Rattle.sheet.proofs.Known.{same-contents, limits}
 use Rattle.text.specs.Bytes.{Wrote, chars, decimal}
-use Rattle.verdicts.specs.declared.Judged.{Judged}
+use Rattle.judging.specs.declared.Judged.{Judged}
 use Rattle.lines.specs.Lines.{newline, answerText, answerLine, verdictText, twinText, claimLine, Brief}
 use Rattle.listing.specs.Listed.{IsLine}
 use Rattle.listing.proofs.Lined.{twin-small, brief, same-text}

@@ -17,7 +17,7 @@ use Rattle.terms.specs.declared.Check.the-variants.{Fine, Refused}
 use Rattle.sheet.proofs.Taken.{sound-answer, refused-answer}
 use Rattle.pairs.specs.declared.Pair.{Pair}
 use Rattle.pairs.specs.declared.Answer.the-variants.{Kept, Broken}
-use Rattle.pairs.specs.Crosses.{Crosses}
+use Rattle.crossing.specs.Crosses.{Crosses}
 use Rattle.pairs.specs.Pairs.{IsPair, IsPairIn, countedCheck, pairCheck, areaAfter}
 use Rattle.pairs.proofs.Order.{passed-all}
 use borrow.Author.Needs.{needs}

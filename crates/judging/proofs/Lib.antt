@@ -1,0 +1,4 @@
+pub mod Rows
+pub mod Targets
+pub mod Answered
+pub mod Lowest
