@@ -161,8 +161,8 @@ pub fn claim_check(sheet: &[u8], i: Claim) -> Check
     let Reading::Sound(counts) = answer else {
         return answer.check();
     };
-    let there = among(i.0, counts.claims);
-    if !there {
+    let known = among(i.0, counts.claims);
+    if !known {
         return Check::Refused(Refusal::no_claim(i));
     }
     Check::Fine
@@ -176,8 +176,8 @@ pub fn claim_record(sheet: &[u8], i: Claim) -> &[u8]
     let Reading::Sound(counts) = answer else {
         return &sheet[..0];
     };
-    let there = among(i.0, counts.claims);
-    if !there {
+    let found = among(i.0, counts.claims);
+    if !found {
         return &sheet[..0];
     }
     let n = counts.places;

@@ -82,9 +82,10 @@ pub fn step_in(m: Marking, sheet: &[u8], counts: Counts, t: Transition) -> Moved
 {
     let there = among(t.0, counts.transitions);
     if !there {
+        let kept = m;
         return Moved {
             answer: Check::Refused(Refusal::no_transition(t)),
-            marking: m,
+            marking: kept,
         };
     }
     let n = counts.places;

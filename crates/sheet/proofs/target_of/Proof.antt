@@ -79,7 +79,7 @@ tokens-from-requires c κs =
     let k = c .before .before .before .before .answer .given .0 .0 in
     let x = sound-answer (reading (a .sheet .now)) (sym (c .before .before .before .before .before .before .read .ensures) ∙ c .before .before .before .before .answer .given .1) in
     let h = held (a .sheet .now) (x .0) (x .1) in
-    (most (a .sheet .now) (x .0) k h (x .2) .0, target-fits (a .sheet .now) (x .0) k h (x .2) (c .before .before .target-from .result) (c .before .before .target-from .ensures .0))
+    (most (a .sheet .now) (x .0) k h (x .2) .0, omega (arith, target-fits (a .sheet .now) (x .0) k h (x .2) (c .before .before .target-from .result) (c .before .before .target-from .ensures .0)))
 
 returns-2 : tie.Need-returns-2
 returns-2 c =
