@@ -53,7 +53,7 @@ returns-2 c =
     let h = held (a .sheet .now) (x .0) (x .1) in
     let no : among (a .i .0) (length (x .0 .claims)) ≡ false =
     ap (among (a .i .0)) (sym (c-is (a .sheet .now) (x .0) k h (x .2))) ∙ sym (c .before .before .among .ensures) ∙ not-true (c .before .before .among .result) (c .before .if1 .taken) in
-    at-start _ _ refl refl (ap (λ y. recordAt y (a .i)) (x .1) ∙ ap (λ t. choose t (recordFrom (x .0) (a .i .0)) 0) no) (ap (λ y. recordBytes y (a .i)) (x .1) ∙ ap (λ t. choose t (claimBytes (claim (x .0) (a .i .0))) []) no)
+    at-start _ _ refl refl (ap (λ y. recordAt y (a .i)) (x .1) ∙ rw no) (ap (λ y. recordBytes y (a .i)) (x .1) ∙ ap (λ t. choose t (claimBytes (claim (x .0) (a .i .0))) []) no)
 
 sub-behind-claims : tie.Need-sub-behind-claims
 sub-behind-claims c =
