@@ -110,7 +110,7 @@ static void show_listing(krunvedo_bytes sheet, size_t area, size_t room) {
 }
 
 static void show_texts(krunvedo_bytes sheet) {
-  krunvedo_bytes cut = {sheet.data, sheet.length - 1};
+  krunvedo_bytes cut = {sheet.data, sheet.length > 0 ? sheet.length - 1 : 0};
   show_listing(sheet, KRUNVEDO_AREA, KRUNVEDO_TEXT);
   show_listing(sheet, KRUNVEDO_AREA, KRUNVEDO_TEXT - 1);
   show_listing(sheet, KRUNVEDO_AREA - 1, KRUNVEDO_TEXT - 1);
