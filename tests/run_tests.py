@@ -4,7 +4,7 @@
 
 The programs and the library must be built. Most sheets go to `answers` and `listings`, which take many in one run:
 where an emulator runs the programs, a start takes far longer than a sheet. The pairs go to `questions`, the walks to
-`walks`.
+`walks`. Every call of the library is made from C.
 """
 
 import sys
@@ -15,6 +15,7 @@ import resource
 from collections import Counter
 from concurrent.futures import ProcessPoolExecutor
 
+from call_comparison import compare_calls
 from cases import answer_name, for_answers, for_judge, make_cases
 from checks import Checks, Failure, run_checks
 from comparison import Case, differences
@@ -114,6 +115,7 @@ def main() -> int:
         check_examples,
         check_streams,
         check_library,
+        compare_calls,
         compare_sheets,
         compare_pairs,
         compare_listings,
