@@ -20,6 +20,7 @@ from cases import answer_name, for_answers, for_judge, make_cases
 from checks import Checks, Failure, run_checks
 from comparison import Case, differences
 from example_checks import check_examples
+from files_checks import check_files
 from listing_comparison import compare_listings
 from library_checks import check_library
 from pair_tests import compare_pairs
@@ -108,6 +109,7 @@ def main() -> int:
     resource.setrlimit(resource.RLIMIT_AS, (MEMORY_LIMIT, MEMORY_LIMIT))
     check_tests_can_fail()
     return run_checks(
+        check_files,
         check_promises,
         check_second_program,
         check_verdicts_by_hand,
