@@ -113,9 +113,12 @@ CALLED = [call_lines(data) for _, data in LISTED]
 RIGHT_CALLS = "".join(map(right_text, CALLED))
 
 REDUCED_5 = f"reduced 5: refusal 0 at 0, coefficients 1 1{NONE}, constant"
+REDUCED_J = "reduced 2: refusal 0 at 0, coefficients 2 -3"
+JUDGED_2 = "verdict 2: refusal 0 at 0, answer"
 JUDGED_J = f"verdict 1: refusal 0 at 0, answer 3, transition 2, tokens 3 1{NONE}, marks 20008 zero, queue 20001 zero\n"
 ASKED_J = f"pair 2: refusal 0 at 0, answer 2, tokens 3 1{NONE}, by transition 2"
 RECORD_2 = "claim_record 2: refusal 0 at 0, from 29, length 6\n"
+STEP_1 = "step 1: refusal 0 at 0, tokens"
 LAST_CALLS = right_text(CALLED[-1])
 
 WRONG_CALLS = [
@@ -126,7 +129,7 @@ WRONG_CALLS = [
     ("a sign, called", FIRST, "half_space 2: refusal 0 at 0, coefficients -1", "half_space 2: refusal 0 at 0, coefficients 1"),
     ("a reduced form not reduced", FIRST, f"{REDUCED_5} 2", f"{REDUCED_5} 4".replace(" 1 1 ", " 2 2 ")),
     ("a reduced form with the constant as it was", FIRST, f"{REDUCED_5} 2", f"{REDUCED_5} 4"),
-    ("a reduced form without its sign", CASE_J, "reduced 2: refusal 0 at 0, coefficients 2 -3", "reduced 2: refusal 0 at 0, coefficients 2 3"),
+    ("a reduced form without its sign", CASE_J, REDUCED_J, REDUCED_J.replace("-3", "3")),
     ("a claim's check refused", FIRST, "claim_check 3: refusal 0 at 0", "claim_check 3: refusal 11 at 3"),
     ("a record one later", FIRST, RECORD_2, RECORD_2.replace("29", "30")),
     ("a record without its mark", FIRST, RECORD_2, RECORD_2.replace("29, length 6", "31, length 4")),
@@ -134,7 +137,7 @@ WRONG_CALLS = [
     ("a claim that is its own twin", FIRST, "twin 5: refusal 0 at 0, claim 1", "twin 5: refusal 0 at 0, claim 5"),
     ("a twin for a claim without", FIRST, "twin 4: refusal 0 at 0, claim 0", "twin 4: refusal 0 at 0, claim 1"),
     ("broken for proof, called", FIRST, "verdict 1: refusal 0 at 0, answer 4", "verdict 1: refusal 0 at 0, answer 3"),
-    ("target-inside before start-outside, called", FIRST, "verdict 2: refusal 0 at 0, answer 1", "verdict 2: refusal 0 at 0, answer 2"),
+    ("target-inside before start-outside, called", FIRST, f"{JUDGED_2} 1", f"{JUDGED_2} 2"),
     ("another transition, called", CASE_J, JUDGED_J, JUDGED_J.replace("transition 2", "transition 1")),
     ("a marking that isn't inside, called", CASE_J, JUDGED_J, JUDGED_J.replace("tokens 3 1", "tokens 2 2")),
     ("a marking that stays inside, called", CASE_J, JUDGED_J, JUDGED_J.replace("tokens 3 1", "tokens 4 1")),
@@ -157,7 +160,7 @@ WRONG_CALLS = [
     ("a text written by a refusal", FIRST, "text 4095 kept", "text 4095 dirty"),
     ("another refusal's line", HEAD, "refused 9 at 23\n", "refused 9 at 24\n"),
     ("a walk that begins elsewhere", FIRST, "begin 0: refusal 0 at 0, tokens 2 0", "begin 0: refusal 0 at 0, tokens 0 1"),
-    ("a step that clears what lies beyond", FIRST, "step 1: refusal 0 at 0, tokens 1 1 9", "step 1: refusal 0 at 0, tokens 1 1 0"),
+    ("a step that clears what lies beyond", FIRST, f"{STEP_1} 1 1 9", f"{STEP_1} 1 1 0"),
     ("a refused step that moves, called", FIRST, "step 2: refusal 12 at 2, tokens 1 1", "step 2: refusal 12 at 2, tokens 0 2"),
     ("a changed sheet", FIRST, "sheet kept", "sheet changed"),
     ("a missing line, called", FIRST, RECORD_2, ""),

@@ -1,5 +1,5 @@
-/* Makes every call of the library on many sheets from standard input. Each has its length before it, two bytes, the lower one first.
- * Prints a line for each answer, with a word on what became of each area that was lent, and after each sheet a line that is a dot. */
+/* Makes every call of the library on many sheets from standard input. Each has its length before it: two bytes, the lower one first.
+ * Prints a line for each answer, with a word on what became of each area lent, and after each sheet a line that is a dot. */
 #include "calls.h"
 
 #include <string.h>

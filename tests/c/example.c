@@ -1,5 +1,5 @@
-/* Makes every call of the library on a sheet from standard input, and prints a line for each answer. Those that need no area stand in
- * calls.h. */
+/* Makes every call of the library on a sheet from standard input, and prints a line for each answer. The calls that need no area stand
+ * in calls.h. */
 #include "calls.h"
 
 #include <string.h>
