@@ -30,19 +30,26 @@ STRICT_RUST = ["--edition", "2021", "--test", "-D", "warnings"]
 
 def check_library(checks: Checks) -> None:
     with TemporaryDirectory() as folder:
-        check_c(checks, Path(folder) / "example")
+        check_c(checks, Path(folder))
         if NATIVE:
             check_rust(checks, Path(folder) / "library")
         else:
             print(f"library: not linked by rustc, which makes no x86-64 programs on {platform.machine()}")
 
 
-def check_c(checks: Checks, program: Path) -> None:
-    source, archive = ROOT / "tests" / "c" / "example.c", ARCHIVES / "libkrunvedo.a"
-    if built(checks, [COMPILER, *STRICT_C, f"-I{ROOT / 'include'}", source, archive, "-o", program]):
+def check_c(checks: Checks, folder: Path) -> None:
+    program = c_program(checks, "example", folder)
+    if program:
         expected = "".join(line + "\n" for line in expected_lines())
-        line = [str(program)] if NATIVE else command(str(program))
-        checks.equal("the library from C", FIRST, expected, output_of(line, TIME_LIMIT, input=FIRST))
+        checks.equal("the library from C", FIRST, expected, output_of(program, TIME_LIMIT, input=FIRST))
+
+
+def c_program(checks: Checks, name: str, folder: Path) -> list[str]:
+    """The command that runs tests/c/NAME.c, which is built into the folder with the library; nothing if it can't be built."""
+    source, archive, program = ROOT / "tests" / "c" / f"{name}.c", ARCHIVES / "libkrunvedo.a", folder / name
+    if not built(checks, [COMPILER, *STRICT_C, f"-I{ROOT / 'include'}", source, archive, "-o", program]):
+        return []
+    return [str(program)] if NATIVE else command(str(program))
 
 
 def check_rust(checks: Checks, program: Path) -> None:

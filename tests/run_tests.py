@@ -4,7 +4,7 @@
 
 The programs and the library must be built. Most sheets go to `answers` and `listings`, which take many in one run:
 where an emulator runs the programs, a start takes far longer than a sheet. The pairs go to `questions`, the walks to
-`walks`.
+`walks`. Every call of the library is made from C.
 """
 
 import sys
@@ -15,10 +15,12 @@ import resource
 from collections import Counter
 from concurrent.futures import ProcessPoolExecutor
 
+from call_comparison import compare_calls
 from cases import answer_name, for_answers, for_judge, make_cases
 from checks import Checks, Failure, run_checks
 from comparison import Case, differences
 from example_checks import check_examples
+from files_checks import check_files
 from listing_comparison import compare_listings
 from library_checks import check_library
 from pair_tests import compare_pairs
@@ -107,6 +109,7 @@ def main() -> int:
     resource.setrlimit(resource.RLIMIT_AS, (MEMORY_LIMIT, MEMORY_LIMIT))
     check_tests_can_fail()
     return run_checks(
+        check_files,
         check_promises,
         check_second_program,
         check_verdicts_by_hand,
@@ -114,6 +117,7 @@ def main() -> int:
         check_examples,
         check_streams,
         check_library,
+        compare_calls,
         compare_sheets,
         compare_pairs,
         compare_listings,

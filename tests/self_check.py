@@ -9,6 +9,7 @@ from contextlib import redirect_stdout
 from io import StringIO
 from unittest.mock import patch
 
+import call_comparison
 import listing_comparison
 import pair_comparison
 import walk_comparison
@@ -21,11 +22,15 @@ from pair_comparison import Question, second_answer, second_faults
 from second.counts import first_line
 from second.sheet import read, write
 from wrong_outputs import (
+    CALLED,
+    JUDGED_J,
     LISTED,
     OTHER_RIGHT_TOKENS,
+    RIGHT_CALLS,
     RIGHT_LISTINGS,
     RIGHT_WALKS,
     WALKED,
+    WRONG_CALLS,
     WRONG_LISTINGS,
     WRONG_WALKS,
 )
@@ -120,6 +125,10 @@ def check_tests_can_fail() -> None:
         other = RIGHT_LISTINGS.replace("broken 2 2 1\n", f"broken 2 {tokens}\n")
         demand(f"{tokens} in a listing passes too", other != RIGHT_LISTINGS and not listing_failures(other))
     check_reported(walk_failures, RIGHT_WALKS, WRONG_WALKS)
+    check_reported(call_failures, RIGHT_CALLS, WRONG_CALLS)
+    for tokens in OTHER_RIGHT_TOKENS:
+        other = RIGHT_CALLS.replace(JUDGED_J, JUDGED_J.replace("3 1", tokens))
+        demand(f"{tokens} in a call's answer passes too", other != RIGHT_CALLS and not call_failures(other))
     demand("the second program agrees with itself", not failures_found_again())
     with patch("second.sums.some_sum", return_value=False):
         demand("second program: proof for broken, found another way", failures_found_again())
@@ -141,6 +150,10 @@ def failures_found_again() -> list[Failure]:
 
 def walk_failures(output: str) -> list[Failure]:
     return walk_comparison.differences([walk for walk, _ in WALKED], output)
+
+
+def call_failures(output: str) -> list[Failure]:
+    return call_comparison.differences(LISTED, CALLED, output)
 
 
 def check_reported(find: Callable[[str], list[Failure]], right: str, wrong: list[tuple[str, bytes, str, str]]) -> None:

@@ -1,8 +1,10 @@
-"""Right outputs of `listings` and `walks`, and wrong ones that must be reported."""
+"""Right outputs of `listings`, `walks` and tests/c/every_call.c, and wrong ones that must be reported."""
 
 from make_listings import Made
 from named_cases import FIRST, HEAD
 from pair_cases import T_OF_004
+from second.calls import call_lines
+from second.listing import right_text
 from second.sheet import Claim, Sheet, Transition, write
 from verdicts_by_hand import LISTING_OF_01
 from walks_by_hand import FULL, WALKS
@@ -104,4 +106,67 @@ WRONG_WALKS = [
     ("a walk too many", HEAD, LAST, 2 * LAST),
     ("a missing dot after a walk", HEAD, LAST, LAST[:-2]),
     ("an end by a signal after a walk", HEAD, LAST, LAST + "(ended with status -11)"),
+]
+
+# Every call on the sheets whose listings stand above, with the bad markings that the second program happens to find.
+CALLED = [call_lines(data) for _, data in LISTED]
+RIGHT_CALLS = "".join(map(right_text, CALLED))
+
+REDUCED_5 = f"reduced 5: refusal 0 at 0, coefficients 1 1{NONE}, constant"
+REDUCED_J = "reduced 2: refusal 0 at 0, coefficients 2 -3"
+JUDGED_2 = "verdict 2: refusal 0 at 0, answer"
+JUDGED_J = f"verdict 1: refusal 0 at 0, answer 3, transition 2, tokens 3 1{NONE}, marks 20008 zero, queue 20001 zero\n"
+ASKED_J = f"pair 2: refusal 0 at 0, answer 2, tokens 3 1{NONE}, by transition 2"
+RECORD_2 = "claim_record 2: refusal 0 at 0, from 29, length 6\n"
+STEP_1 = "step 1: refusal 0 at 0, tokens"
+LAST_CALLS = right_text(CALLED[-1])
+
+WRONG_CALLS = [
+    ("a count, called", FIRST, "counts 2 1 5", "counts 2 1 4"),
+    ("a weight, called", FIRST, "weights 1: refusal 0 at 0, taken 1 0", "weights 1: refusal 0 at 0, taken 0 1"),
+    ("a start, called", FIRST, "start 0: refusal 0 at 0, tokens 2 0", "start 0: refusal 0 at 0, tokens 0 1"),
+    ("a kind, called", FIRST, "kind 0, tokens 0 1", "kind 1, tokens 0 1"),
+    ("a sign, called", FIRST, "half_space 2: refusal 0 at 0, coefficients -1", "half_space 2: refusal 0 at 0, coefficients 1"),
+    ("a reduced form not reduced", FIRST, f"{REDUCED_5} 2", f"{REDUCED_5} 4".replace(" 1 1 ", " 2 2 ")),
+    ("a reduced form with the constant as it was", FIRST, f"{REDUCED_5} 2", f"{REDUCED_5} 4"),
+    ("a reduced form without its sign", CASE_J, REDUCED_J, REDUCED_J.replace("-3", "3")),
+    ("a claim's check refused", FIRST, "claim_check 3: refusal 0 at 0", "claim_check 3: refusal 11 at 3"),
+    ("a record one later", FIRST, RECORD_2, RECORD_2.replace("29", "30")),
+    ("a record without its mark", FIRST, RECORD_2, RECORD_2.replace("29, length 6", "31, length 4")),
+    ("no twin", FIRST, "twin 5: refusal 0 at 0, claim 1", "twin 5: refusal 0 at 0, claim 0"),
+    ("a claim that is its own twin", FIRST, "twin 5: refusal 0 at 0, claim 1", "twin 5: refusal 0 at 0, claim 5"),
+    ("a twin for a claim without", FIRST, "twin 4: refusal 0 at 0, claim 0", "twin 4: refusal 0 at 0, claim 1"),
+    ("broken for proof, called", FIRST, "verdict 1: refusal 0 at 0, answer 4", "verdict 1: refusal 0 at 0, answer 3"),
+    ("target-inside before start-outside, called", FIRST, f"{JUDGED_2} 1", f"{JUDGED_2} 2"),
+    ("another transition, called", CASE_J, JUDGED_J, JUDGED_J.replace("transition 2", "transition 1")),
+    ("a marking that isn't inside, called", CASE_J, JUDGED_J, JUDGED_J.replace("tokens 3 1", "tokens 2 2")),
+    ("a marking that stays inside, called", CASE_J, JUDGED_J, JUDGED_J.replace("tokens 3 1", "tokens 4 1")),
+    ("a marking that isn't enabled, called", CASE_J, JUDGED_J, JUDGED_J.replace("tokens 3 1", "tokens 1 0")),
+    ("20,001 tokens, called", CASE_J, JUDGED_J, JUDGED_J.replace("tokens 3 1", "tokens 20001 13334")),
+    ("a token beyond place n, called", CASE_J, JUDGED_J, JUDGED_J.replace("tokens 3 1 0", "tokens 2 1 1")),
+    ("a marking of 15 numbers", CASE_J, JUDGED_J, JUDGED_J.replace("tokens 3 1 0", "tokens 2 1")),
+    ("dirty marks", CASE_J, JUDGED_J, JUDGED_J.replace("marks 20008 zero", "marks 20008 dirty")),
+    ("a queue that isn't cleared", CASE_J, JUDGED_J, JUDGED_J.replace("queue 20001 zero", "queue 20001 kept")),
+    ("kept for broken, called", CASE_J, ASKED_J, ASKED_J.replace("answer 2, tokens 3 1", "answer 1, tokens 0 0")),
+    ("another pair's marking", CASE_J, ASKED_J, ASKED_J.replace("tokens 3 1", "tokens 0 1")),
+    ("areas cleared by a refusal", FIRST, "marks 19999 kept", "marks 19999 zero"),
+    ("13 not given", FIRST, "verdict 1: refusal 13 at 0, answer 0", "verdict 1: refusal 0 at 0, answer 4"),
+    ("a far number cut", FIRST, "refusal 11 at 4294967297", "refusal 11 at 1"),
+    ("11 before the sheet's refusal", HEAD, "verdict 0: refusal 9 at 23", "verdict 0: refusal 11 at 0"),
+    ("a detail, called", HEAD, "twin 1: refusal 9 at 23", "twin 1: refusal 9 at 0"),
+    ("counts of a refused sheet", HEAD, "refusal 9 at 23, counts 0 0 0", "refusal 9 at 23, counts 2 1 0"),
+    ("another verdict in a text", FIRST, "claim 3 target-inside\n", "claim 3 proof\n"),
+    ("a text of another length", FIRST, "text 4096 written", "text 4096 dirty"),
+    ("a text written by a refusal", FIRST, "text 4095 kept", "text 4095 dirty"),
+    ("another refusal's line", HEAD, "refused 9 at 23\n", "refused 9 at 24\n"),
+    ("a walk that begins elsewhere", FIRST, "begin 0: refusal 0 at 0, tokens 2 0", "begin 0: refusal 0 at 0, tokens 0 1"),
+    ("a step that clears what lies beyond", FIRST, f"{STEP_1} 1 1 9", f"{STEP_1} 1 1 0"),
+    ("a refused step that moves, called", FIRST, "step 2: refusal 12 at 2, tokens 1 1", "step 2: refusal 12 at 2, tokens 0 2"),
+    ("a changed sheet", FIRST, "sheet kept", "sheet changed"),
+    ("a missing line, called", FIRST, RECORD_2, ""),
+    ("a line too many, called", FIRST, RECORD_2, 2 * RECORD_2),
+    ("a sheet without answers", CASE_J, LAST_CALLS, ""),
+    ("answers too many", CASE_J, LAST_CALLS, 2 * LAST_CALLS),
+    ("a missing dot after the calls", CASE_J, LAST_CALLS, LAST_CALLS[:-2]),
+    ("an end by a signal after the calls", CASE_J, LAST_CALLS, LAST_CALLS + "(ended with status -11)"),
 ]

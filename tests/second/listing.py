@@ -55,10 +55,13 @@ def claim_line(sheet: Sheet, index: int, twin: int | None) -> Line:
 
 
 def listing(data: bytes) -> str:
-    """One right listing: any bad marking will do, so another may be right too."""
-    return "".join(
-        line.with_tokens(bad_marking(line.broken) if line.broken else ()) + "\n" for line in lines(read(data))
-    )
+    """One right listing."""
+    return right_text(lines(read(data)))
+
+
+def right_text(expected: list[Line]) -> str:
+    """A text with these lines: any bad marking will do, so another may be right too."""
+    return "".join(line.with_tokens(bad_marking(line.broken) if line.broken else ()) + "\n" for line in expected)
 
 
 def check_listing(data: bytes, text: str) -> str | None:

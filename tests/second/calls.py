@@ -1,0 +1,200 @@
+"""What every call of the library must answer on a sheet, in the lines and the order of tests/c/every_call.c.
+
+Rules and quoted sentences are 01's; the numbers of the answers are those of include/krunvedo.h.
+"""
+
+from collections.abc import Iterator, Sequence
+from dataclasses import dataclass
+from itertools import product
+
+from second.held import NO_CLAIM, NO_SHEET, NO_TRANSITION, row
+from second.limits import AREA_SIZE, MOST_PLACES, MOST_TOKENS
+from second.listing import Line, lines
+from second.pairs import Pair
+from second.sheet import Refusal, Sheet, claim_record, outside, read, records
+from second.sums import breaks
+from second.twins import first_twins, reduced
+from second.verdicts import BY_SUMS, verdict
+from second.walk import begun, stepped
+
+FINE = Refusal(0, 0)
+VERDICTS = ["refused", "start-outside", "target-inside", "broken", "proof"]
+TEXT_SIZE = 4_096
+FAR = 2**32 + 1  # asked for too: in 32 bits it is 1
+PAIRS = 24  # asked about on a sheet, or a few more
+
+ENOUGH = [(AREA_SIZE, AREA_SIZE), (AREA_SIZE + 8, AREA_SIZE + 1)]
+TOO_FEW = [(AREA_SIZE - 1, AREA_SIZE), (AREA_SIZE, AREA_SIZE - 1), (0, 0)]
+
+Sizes = tuple[int, int]
+
+
+@dataclass(frozen=True)
+class Asked:
+    """A sheet that was read; where it is refused, `sheet` is one without anything."""
+
+    answer: Sheet | Refusal
+
+    @property
+    def sheet(self) -> Sheet:
+        return NO_SHEET if isinstance(self.answer, Refusal) else self.answer
+
+    @property
+    def refused(self) -> Refusal | None:
+        return self.answer if isinstance(self.answer, Refusal) else None
+
+    def claim_refused(self, i: int) -> Refusal | None:
+        return self.refused or outside(i, len(self.sheet.claims), 11)
+
+    def transition_refused(self, t: int) -> Refusal | None:
+        return self.refused or outside(t, self.sheet.T, 12)
+
+
+def call_lines(data: bytes) -> list[Line]:
+    """All lines of a sheet, its dot included."""
+    asked = Asked(read(data))
+    transitions, claims = numbers(asked.sheet.T), numbers(len(asked.sheet.claims))
+    twins = first_twins(asked.sheet.claims)
+    return [
+        *map(Line, sheet_lines(asked)),
+        *(Line(weights_line(asked, t)) for t in transitions),
+        *(line for index, i in enumerate(claims) for line in claim_lines(asked, i, twins, ENOUGH[index % 2])),
+        *pair_lines(asked, claims, transitions),
+        *too_few_lines(asked),
+        *text_lines(asked),
+        *map(Line, walk_lines(asked, transitions)),
+        Line("sheet kept"),
+        Line("."),
+    ]
+
+
+def numbers(count: int) -> list[int]:
+    return [*range(count + 2), FAR]
+
+
+def refusal(refused: Refusal | None) -> str:
+    """ "Each refusal gives its number and a detail"."""
+    return "refusal {} at {}".format(*(refused or FINE))
+
+
+def sheet_lines(asked: Asked) -> Iterator[str]:
+    sheet, words = asked.sheet, refusal(asked.refused)
+    yield f"read 0: {words}, counts {sheet.n} {sheet.T} {len(sheet.claims)}"
+    yield f"start 0: {words}, tokens {row(sheet.start)}"
+    yield f"target 0: {words}, kind {sheet.kind}, tokens {row(sheet.target)}"
+
+
+def weights_line(asked: Asked, t: int) -> str:
+    refused = asked.transition_refused(t)
+    taken, put = NO_TRANSITION if refused else asked.sheet.transitions[t - 1]
+    return f"weights {t}: {refusal(refused)}, taken {row(taken)}, put {row(put)}"
+
+
+def claim_lines(asked: Asked, i: int, twins: Sequence[int | None], sizes: Sizes) -> Iterator[Line]:
+    refused = asked.claim_refused(i)
+    claim = NO_CLAIM if refused else asked.sheet.claims[i - 1]
+    for call, (coefficients, constant) in [("half_space", claim), ("reduced", reduced(claim))]:
+        yield Line(f"{call} {i}: {refusal(refused)}, coefficients {row(coefficients)}, constant {constant}")
+    yield Line(f"claim_check {i}: {refusal(refused)}")
+    offset, length = (0, 0) if refused else record_place(asked.sheet, i)
+    yield Line(f"claim_record {i}: {refusal(refused)}, from {offset}, length {length}")
+    yield Line(f"twin {i}: {refusal(refused)}, claim {0 if refused else twins[i - 1] or 0}")
+    yield verdict_line(asked, i, sizes)
+
+
+def record_place(sheet: Sheet, i: int) -> tuple[int, int]:
+    """Where the record of a claim stands, "mark included", behind those of NP, TR, MK, TG and the claims before it."""
+    before = records(sheet)[: len(sheet.transitions) + 3 + i - 1]
+    return sum(map(len, before)), len(claim_record(sheet.claims[i - 1]))
+
+
+def small_area(sizes: Sizes) -> Refusal | None:
+    """13: "either work area has fewer than 20,000 entries"."""
+    return Refusal(13, 0) if min(sizes) < AREA_SIZE else None
+
+
+def areas(refused: Refusal | None, sizes: Sizes) -> str:
+    """After a refusal all is as it was; else "the first 20,000 entries of both are zero and the rest are untouched"."""
+    word = "kept" if refused else "zero"
+    return ", marks {} {}, queue {} {}".format(sizes[0], word, sizes[1], word)
+
+
+def marked(opening: str, broken: Pair | None, closing: str) -> Line:
+    """A line with a bad marking, or with zeros; it is "held as 16 numbers, zero beyond place n"."""
+    n = len(broken.claim.coefficients) if broken else 0
+    return Line(f"{opening}, tokens", broken, (MOST_PLACES - n) * " 0" + closing)
+
+
+def verdict_line(asked: Asked, i: int, sizes: Sizes) -> Line:
+    refused = asked.claim_refused(i) or small_area(sizes)
+    word, t, broken = "refused", None, None
+    if not refused:
+        claim = asked.sheet.claims[i - 1]
+        word, t = verdict(asked.sheet, claim, BY_SUMS)
+        broken = Pair(claim, asked.sheet.transitions[t - 1]) if t else None
+    opening = f"verdict {i}: {refusal(refused)}, answer {VERDICTS.index(word)}, transition {t or 0}"
+    return marked(opening, broken, areas(refused, sizes))
+
+
+def pair_line(asked: Asked, i: int, t: int, sizes: Sizes) -> Line:
+    refused = asked.claim_refused(i) or asked.transition_refused(t) or small_area(sizes)
+    answer, broken = 0, None
+    if not refused:
+        pair = Pair(asked.sheet.claims[i - 1], asked.sheet.transitions[t - 1])
+        answer, broken = (2, pair) if breaks(pair) else (1, None)
+    closing = f", by transition {t}{areas(refused, sizes)}"
+    return marked(f"pair {i}: {refusal(refused)}, answer {answer}", broken, closing)
+
+
+def pair_lines(asked: Asked, claims: list[int], transitions: list[int]) -> Iterator[Line]:
+    step = 1 + len(claims) * len(transitions) // PAIRS
+    for (index, i), (other, t) in product(enumerate(claims), enumerate(transitions)):
+        if other % step == index % step:
+            yield pair_line(asked, i, t, ENOUGH[(index + other) % 2])
+
+
+def too_few_lines(asked: Asked) -> Iterator[Line]:
+    for i, sizes in enumerate(TOO_FEW):
+        yield verdict_line(asked, i, sizes)
+        yield pair_line(asked, i, 1, sizes)
+    yield pair_line(asked, 1, 0, TOO_FEW[0])
+
+
+def text_lines(asked: Asked) -> Iterator[Line]:
+    for sizes, room in [
+        (ENOUGH[0], TEXT_SIZE),
+        (ENOUGH[1], TEXT_SIZE + 1),
+        (ENOUGH[0], TEXT_SIZE - 1),
+        (TOO_FEW[0], TEXT_SIZE - 1),
+        (TOO_FEW[1], TEXT_SIZE),
+    ]:
+        refused = asked.refused or small_area(sizes) or small_text(room)
+        yield Line(f"listing: {written(refused, room)}{areas(refused, sizes)}")
+        yield from [] if refused else lines(asked.answer)
+    yield Line(f"refusal_text: {written(None, TEXT_SIZE)}")
+    yield Line((asked.refused or FINE).words())
+    yield Line(f"refusal_text: {written(small_text(TEXT_SIZE - 1), TEXT_SIZE - 1)}")
+
+
+def small_text(room: int) -> Refusal | None:
+    """The library's own refusal 19: the text's area is too short, and the detail is what it must have."""
+    return Refusal(19, TEXT_SIZE) if room < TEXT_SIZE else None
+
+
+def written(refused: Refusal | None, room: int) -> str:
+    number, detail = refused or FINE
+    return f"number {number} at {detail}, text {room} {'kept' if refused else 'written'}"
+
+
+def walk_lines(asked: Asked, transitions: list[int]) -> Iterator[str]:
+    """From the start with other numbers beyond n, and from nearly full places; a refused step moves nothing."""
+    start = begun(asked.sheet)
+    yield f"begin 0: {refusal(asked.refused)}, tokens {row(start)}"
+    n = asked.sheet.n
+    beyond = tuple(7 + place for place in range(n, MOST_PLACES))
+    for marking in [start[:n] + beyond, tuple(MOST_TOKENS - place for place in range(MOST_PLACES))]:
+        for t in transitions:
+            after = stepped(asked.answer, marking, t)
+            refused = after if isinstance(after, Refusal) else None
+            marking = marking if refused else after
+            yield f"step {t}: {refusal(refused)}, tokens {row(marking)}"
