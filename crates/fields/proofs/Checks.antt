@@ -9,11 +9,9 @@ use Rattle.format.specs.Read.{Read, sound, refused, _>>=_, _>>_}
 use Rattle.format.specs.Reading.{wholeAt, openedAt}
 use Rattle.format.proofs.Sound.{whole-sound, opened-sound}
 use Rattle.fields.specs.Checked.{checked}
+use Rattle.terms.proofs.Outcomes.{fine-not-refused}
 use Rattle.terms.specs.declared.Check.{Check}
 use Rattle.terms.specs.declared.Check.the-variants.{Fine, Refused}
-
-pub fine-not-refused : {r : Refusal} → Fine ≡ Refused r → ⊥
-fine-not-refused {r} e = let z : _≡_ {A = ℕ} 0 1 = cc in omega arith
 
 pub fine : {A : Type 0} (x : Read A) → checked x ≡ Fine → (a : A) × (x ≡ sound a)
 fine (sound a) e = (a, refl)

@@ -67,7 +67,7 @@ pub fn weights(s: &[u8], from: usize, count: usize) -> Check
     let end = from + count;
     let mut at = from;
     while at < end {
-        let fits = Weight(s[at]).fits();
+        let fits = Weight::of_byte(s[at]).fits();
         if !fits {
             return refuse(4, at);
         }

@@ -8,6 +8,7 @@ use native.Mathlib.Omega.{arith}
 use Rattle.terms.specs.declared.Place.{Place}
 use Rattle.terms.specs.declared.Refusal.{Refusal}
 use Rattle.format.specs.Read.{choose}
+use Rattle.terms.proofs.Outcomes.{fine-not-refused}
 use Rattle.terms.specs.declared.Check.{Check}
 use Rattle.terms.specs.declared.Check.the-variants.{Fine, Refused}
 use Rattle.firing.specs.Firing.{lowest}
@@ -15,9 +16,6 @@ use Rattle.firing.specs.Table.{IsLowest}
 
 abbrev pub number : ℕ → Place
 number p = record { 0 = p + 1 }
-
-pub fine-not-refused : {r : Refusal} → Fine ≡ Refused r → ⊥
-fine-not-refused e = let z : _≡_ {A = ℕ} 0 1 = cc in omega arith
 
 module _ (test : ℕ → Bool) (refusal : Place → Refusal) where
   -- at the place behind p others

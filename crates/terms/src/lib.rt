@@ -66,6 +66,12 @@ pub struct Weight(pub u8);
 impl Weight {
     pub const MOST: u8 = 9;
 
+    pub fn of_byte(b: u8) -> Weight
+        ensures { λ r. ⌜ r .0 ≡ b ⌝ }
+    {
+        Weight(b)
+    }
+
     pub fn fits(self) -> bool
         ensures { λ r. ⌜ r ≡ weightFits (self .0) ⌝ }
     {

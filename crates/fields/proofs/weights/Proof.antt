@@ -32,8 +32,11 @@ loop-holds c =
     let a = c .before .args in
     (omega arith, omega arith, ap checked (each-all weightFits 4 (a .s .now) (a .from) (a .from + a .count) (a .count) refl))
 
-shared-slice-read-t9 : tie.Need-shared-slice-read-t9 Inv-loop μ-loop
-shared-slice-read-t9 c = search needs
+shared-slice-read-of-byte : tie.Need-shared-slice-read-of-byte Inv-loop μ-loop
+shared-slice-read-of-byte c = search needs
+
+of-byte-requires : tie.Need-of-byte-requires Inv-loop μ-loop
+of-byte-requires c κs = search needs
 
 fits-requires : tie.Need-fits-requires Inv-loop μ-loop
 fits-requires c κs = search needs
@@ -43,10 +46,10 @@ refuse-requires c κs = search needs
 
 returns : tie.Need-returns Inv-loop μ-loop
 returns c =
-    let l = c .before .before .before .before .before .loop in
-    let a = c .before .before .before .before .before .before .before .args in
+    let l = c .before .before .before .before .before .before .loop in
+    let a = c .before .before .before .before .before .before .before .before .args in
     let e : c .before .before .fits2 .result ≡ false = not-true (c .before .before .fits2 .result) (c .before .if1 .taken) in
-    c .refuse .ensures ∙ sym (l .inv .2 ∙ ap checked (each-stop weightFits 4 (a .s .now) (l .at) (a .from + a .count) (omega arith) (sym (c .before .before .fits2 .ensures) ∙ e)))
+    c .refuse .ensures ∙ sym (l .inv .2 ∙ ap checked (each-stop weightFits 4 (a .s .now) (l .at) (a .from + a .count) (omega arith) (ap weightFits (sym (c .before .before .before .of-byte .ensures)) ∙ sym (c .before .before .fits2 .ensures) ∙ e)))
 
 add-at : tie.Need-add-at Inv-loop μ-loop
 add-at c = search needs
@@ -56,10 +59,10 @@ loop-less c = search needs
 
 loop-again : tie.Need-loop-again Inv-loop μ-loop
 loop-again c =
-    let l = c .before .before .before .before .loop in
-    let a = c .before .before .before .before .before .before .args in
+    let l = c .before .before .before .before .before .loop in
+    let a = c .before .before .before .before .before .before .before .args in
     let e : c .before .fits2 .result ≡ true = not-false (c .before .fits2 .result) (c .if1 .left) in
-    (omega arith, omega arith, l .inv .2 ∙ ap checked (each-step weightFits 4 (a .s .now) (l .at) (a .from + a .count) (omega arith) (sym (c .before .fits2 .ensures) ∙ e)))
+    (omega arith, omega arith, l .inv .2 ∙ ap checked (each-step weightFits 4 (a .s .now) (l .at) (a .from + a .count) (omega arith) (ap weightFits (sym (c .before .before .of-byte .ensures)) ∙ sym (c .before .fits2 .ensures) ∙ e)))
 
 returns-2 : tie.Need-returns-2 Inv-loop μ-loop
 returns-2 c =
@@ -75,7 +78,8 @@ weights-spec =
     μ-loop
     add-end
     loop-holds
-    shared-slice-read-t9
+    shared-slice-read-of-byte
+    of-byte-requires
     fits-requires
     refuse-requires
     returns

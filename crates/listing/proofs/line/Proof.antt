@@ -27,10 +27,9 @@ claim-line-requires c κs =
     let s = c .before .before .before .before .before .before .before .before .before .before .before .before .before in
     let a = s .args in
     let q = s .pre .0 .0 in
-    let h = halfSpace (claim (q .contents) (a .i)) in
     let r = c .before .before .before .before .before .before .judge-claim .ensures (q .contents) (q .is-read) in
     let b = limits (a .sheet .now) (a .counts) q in
-    ((b .0, omega (arith, b .2, s .pre .0 .2), twin-small (a .sheet .now) (a .counts) q (a .i) (c .before .first-twin .result) (s .pre .0 .2) (c .before .first-twin .ensures (q .contents) (q .is-read)), subst (λ (j : Judged). Brief (j .answer)) (sym (r .2)) (brief (a .sheet .now) (a .counts) q h (r .0) (r .1))), s .pre .1 .2)
+    ((b .0, omega (arith, b .2, s .pre .0 .2), twin-small (a .sheet .now) (a .counts) q (a .i) (c .before .first-twin .result) (s .pre .0 .2) (c .before .first-twin .ensures (q .contents) (q .is-read)), subst (λ (j : Judged). Brief (j .answer)) (sym (r .2)) (brief (a .sheet .now) (a .counts) q _ (r .0) (r .1))), s .pre .1 .2)
 
 same-length : tie.Need-same-length
 same-length c = search needs
