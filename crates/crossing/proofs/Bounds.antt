@@ -2,7 +2,7 @@
 use mathlib.Core.Path.{_≡_, refl}
 use mathlib.Core.Bool.{Bool, true, false, cond}
 use mathlib.Core.List.{List, [], _∷_}
-use Prim.Native.Nat.{ℕ, suc, _*_, _≤_}
+use Prim.Native.Nat.{ℕ, _*_, _≤_}
 use native.Mathlib.Omega.{arith}
 use lib.ListN.{length}
 use lib.IntN.{ℤ, pos, negsuc, negℤ}
@@ -10,7 +10,7 @@ use lib.Signed.{_≤ℤ_, leZ, ltZ}
 use borrow.Author.Tests.{leb-true}
 use Rattle.signed.specs.Linear.{linear, mul-le, mul-ge}
 use Rattle.signed.specs.Parts.{lt-false, le-true}
-use Rattle.terms.specs.Limits.{coefficientFits, constantFits, weightFits}
+use Rattle.terms.specs.Limits.{coefficientFits, constantFits}
 use Rattle.nets.specs.HalfSpaces.{value}
 use Rattle.format.specs.Formed.{All, IsCoefficient, IsWeight}
 use Rattle.crossing.specs.Range.{Constants, Values}

@@ -1,11 +1,10 @@
 -- A search of Theorem 1's window decides kept and broken: what hits it lies beside the weights taken, and where nothing does no marking is bad.
 use mathlib.Core.Path.{_≡_, refl, sym, ap, _∙_}
 use mathlib.Core.List.{List, [], _∷_}
-use Prim.Native.Nat.{ℕ, zero, suc, _+_, _≤_}
+use Prim.Native.Nat.{ℕ, zero, suc, _≤_}
 use native.Mathlib.Omega.{arith}
 use lib.ListN.{length, getD, take}
-use lib.IntN.{ℤ, pos, _-ℤ_}
-use lib.Signed.{_≤ℤ_}
+use lib.IntN.{ℤ}
 use borrow.Author.Tests.{leb-true}
 use Rattle.signed.specs.Linear.{linear}
 use Rattle.signed.specs.Parts.{bounds}
@@ -14,11 +13,11 @@ use Rattle.nets.specs.HalfSpaces.{HalfSpace, value, Kept, Shown, sixteen}
 use Rattle.nets.specs.Window.{low-end, high-end, InWindow}
 use Rattle.nets.proofs.Vectors.{getD-plus, room-length}
 use Rattle.nets.proofs.Theorem1.{bad-beside, kept-exactly}
-use Rattle.format.specs.Formed.{All, Row, IsWeight, IsCoefficient, FormedTransition}
+use Rattle.format.specs.Formed.{IsWeight}
 use Rattle.format.specs.Reading.{transitionIn}
 use Rattle.format.proofs.Everywhere.{all-getD}
 use Rattle.search.specs.Searched.{Hit, Best, Without, Ends}
-use Rattle.crossing.specs.Range.{Constants, Values}
+use Rattle.crossing.specs.Range.{Values}
 use Rattle.crossing.specs.Crosses.{Ready, space}
 use Rattle.crossing.proofs.Bounds.{value-range}
 use Rattle.crossing.proofs.Rows.{sixteen-plus}

@@ -1,6 +1,6 @@
 -- The bytes of a sheet with given contents: document 01, "What the sheet holds".
 use mathlib.Core.List.{List, [], _∷_, _++_, map}
-use Prim.Native.Nat.{ℕ, _+_, _-_, _*_, _/_, _%_}
+use Prim.Native.Nat.{ℕ, _-_, _/_, _%_}
 use lib.ListN.{length, take}
 use lib.IntN.{ℤ, pos, negsuc}
 use Rattle.nets.specs.Nets.{Marking, Transition}

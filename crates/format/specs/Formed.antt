@@ -1,6 +1,6 @@
 -- Which contents a sheet can hold: as many numbers as there are places, and each in its range (document 01, "What the sheet holds").
 use mathlib.Core.Path.{_≡_}
-use mathlib.Core.Bool.{Bool, true}
+use mathlib.Core.Bool.{true}
 use mathlib.Core.List.{List, [], _∷_}
 use Prim.Native.Nat.{ℕ, _≤_, _<_, _^_}
 use lib.ListN.{length}

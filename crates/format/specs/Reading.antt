@@ -1,5 +1,5 @@
 -- The sheet, record by record: document 01, "What the sheet holds" and "Numbers that say no".
-use mathlib.Core.Bool.{Bool, true, false}
+use mathlib.Core.Bool.{Bool}
 use mathlib.Core.List.{List, [], _∷_, map}
 use Prim.Native.Nat.{ℕ, zero, suc, _+_, _*_}
 use lib.Dec.{leb, ltb, eqb}
@@ -7,7 +7,7 @@ use lib.IntN.{ℤ}
 use lib.ListN.{length, getD}
 use Rattle.signed.specs.Twos.{twos8, twos16}
 use Rattle.terms.specs.Limits.{placesFit, transitionsFit, weightFits, coefficientFits, constantFits, kindFits, mostClaims}
-use Rattle.terms.specs.Refusals.{refusedAt, noClaim}
+use Rattle.terms.specs.Refusals.{noClaim}
 use Rattle.nets.specs.Nets.{Marking, Transition}
 use Rattle.nets.specs.Verdicts.{Kind, exact, atOrAbove, Target, Setting}
 use Rattle.format.specs.Read.{Read, sound, refused, _>>=_, _>>_, need, choose}

@@ -1,22 +1,18 @@
 -- The lowest transition that breaks a half space: those before it were found to keep it, one after the other.
-use mathlib.Core.Path.{_≡_, refl, sym, ap, _∙_, subst}
+use mathlib.Core.Path.{_≡_, refl, subst}
 use mathlib.Core.Bool.{Bool, true, false}
-use mathlib.Core.List.{List, [], _∷_, map}
+use mathlib.Core.List.{List, [], _∷_}
 use Prim.Native.Nat.{ℕ, zero, suc, _+_, _≤_, _<_}
 use native.Mathlib.Omega.{arith}
 use lib.Dec.{leb}
 use borrow.Author.Tests.{leb-true, leb-false}
 use lib.ListN.{length}
-use lib.IntN.{ℤ, pos, negsuc}
-use lib.Signed.{_≤ℤ_}
+use lib.IntN.{ℤ}
 use Rattle.signed.specs.Linear.{linear}
-use Rattle.signed.specs.Parts.{bounds, abs-parts, apart}
-use Rattle.nets.specs.Nets.{Net, Transition, IsTransition, transition}
+use Rattle.signed.specs.Parts.{abs-parts, apart}
+use Rattle.nets.specs.Nets.{Net, IsTransition, transition}
 use Rattle.nets.specs.HalfSpaces.{HalfSpace, Kept, Broken}
-use Rattle.format.specs.Read.{sound}
-use Rattle.format.specs.Contents.{Contents}
 use Rattle.format.specs.Formed.{All, IsCoefficient}
-use Rattle.format.specs.Reading.{reading}
 use Rattle.residues.specs.Sums.{sizes, Within}
 use Rattle.crossing.proofs.Bounds.{coefficient-range}
 use Rattle.judging.specs.Judges.{FirstBroken}

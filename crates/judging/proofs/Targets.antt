@@ -4,16 +4,14 @@ use mathlib.Core.Bool.{Bool, true, false}
 use mathlib.Core.Logic.{_↔_, _⊎_, inl, inr}
 use mathlib.Core.List.{List}
 use Prim.Native.Nat.{ℕ, _+_}
-use lib.Dec.{eqb}
 use lib.ListN.{length}
-use lib.IntN.{ℤ}
 use borrow.Author.Tests.{eq-eqb, ne-eqb}
 use Rattle.nets.specs.HalfSpaces.{HalfSpace, Inside}
 use Rattle.nets.specs.Verdicts.{Kind, exact, atOrAbove, Setting, Target, TargetInside, IsTarget, Meets, SomeAbove}
 use Rattle.nets.proofs.Vectors.{at-most-itself}
 use Rattle.nets.proofs.Theorem7.{theorem-7, theorem-7-exact}
 use Rattle.format.specs.Read.{choose}
-use Rattle.format.specs.Reading.{byte, words, targetIn, kindOf}
+use Rattle.format.specs.Reading.{byte, words, targetIn}
 use Rattle.rows.proofs.Filled.{length-words}
 use Rattle.residues.specs.Told.{Says}
 

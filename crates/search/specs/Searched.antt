@@ -1,9 +1,9 @@
 -- What `find` answers: is there an x of whole numbers, zero or more, with lo ≤ k(0) x(0) + k(1) x(1) + .. ≤ hi, and which has the least total?
 use mathlib.Core.Path.{_≡_}
 use mathlib.Core.Bool.{Bool, true, false}
-use mathlib.Core.List.{List, [], _∷_, _++_}
+use mathlib.Core.List.{List, [], _∷_}
 use Prim.Native.Nat.{ℕ, _+_, _≤_}
-use lib.ListN.{length, getD, take, drop, replicate}
+use lib.ListN.{length, getD, take}
 use lib.IntN.{ℤ, pos, negsuc}
 use lib.Signed.{_≤ℤ_}
 use Rattle.nets.specs.HalfSpaces.{value, sixteen}

@@ -6,9 +6,9 @@ use mathlib.Core.List.{List, [], _∷_}
 use Prim.Native.Nat.{ℕ, suc, _+_, _*_, _≤_, _^_}
 use native.Mathlib.Nat.{mul-le-mul-right}
 use native.Mathlib.Omega.{arith}
-use mir.Syntax.{Width, w16, w32}
+use mir.Syntax.{Width}
 use mir.Val.{SFits, hbits}
-use lib.IntN.{ℤ, pos, negsuc, negℤ, subℕ, *ℤ-comm, _+ℤ_, _-ℤ_, _*ℤ_}
+use lib.IntN.{ℤ, pos, negsuc, negℤ, subℕ, *ℤ-comm, _+ℤ_, _*ℤ_}
 use lib.Signed.{_≤ℤ_, _<ℤ_}
 use Rattle.signed.specs.Parts.{P, N, P-pos, N-pos, P-negsuc, N-negsuc, add-parts, P-neg, N-neg, P-mul, N-mul, sub-parts, le-in, le-out, lt-in, lt-out, eq-in, eq-out, sfits, sfits-hi, sfits-lo}
 

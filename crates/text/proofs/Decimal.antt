@@ -1,6 +1,6 @@
 -- Plain decimal: a number below ten is its digit, and any other is its tenth part followed by its last digit.
 use mathlib.Core.Path.{_≡_, refl, sym, ap, _∙_}
-use mathlib.Core.Bool.{Bool, true, false, cond}
+use mathlib.Core.Bool.{Bool, true, false}
 use mathlib.Core.List.{List, [], _∷_, _++_}
 use Prim.Native.Nat.{ℕ, zero, suc, _+_, _*_, _/_, _%_, _^_, _≤_, _<_, pow·suc}
 use native.Mathlib.Omega.{arith}

@@ -17,7 +17,6 @@ use Rattle.format.specs.Reading.{reading}
 use Rattle.reader.specs.Answers.{countsOf}
 use Rattle.terms.specs.declared.Check.{Check}
 use Rattle.terms.specs.declared.Check.the-variants.{Fine, Refused}
-use Rattle.judging.specs.declared.Answer.{Answer}
 use Rattle.judging.specs.declared.Answer.the-variants as answers
 use Rattle.judging.specs.declared.Judged.{Judged}
 use Rattle.judging.specs.Judges.{plainJudged, judgedOf, Judges}

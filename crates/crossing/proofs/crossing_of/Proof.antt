@@ -1,18 +1,15 @@
 -- `crossing_of` meets its contract: what the search finds in the window is a bad marking beside the weights taken, and where it finds nothing none is bad.
-use mathlib.Core.Path.{_≡_, refl, _∙_, sym, ap, subst}
-use native.Mathlib.Omega.{arith}
+use mathlib.Core.Path.{_≡_, _∙_, ap, subst}
 use mathlib.Core.Bool.{Bool, true, false}
 use borrow.Author.Tests.{not-true, not-false}
-use Prim.Native.Nat.{_+_}
 use lib.ListN.{take}
 use lib.IntN.{ℤ}
 use mir.Syntax.{w32}
 use mir.Val.{toZ, ofZ, SFits}
 use mir.Facts.{toZ-ofZ}
 use Rattle.nets.specs.Nets.{_⊞_}
-use Rattle.nets.specs.HalfSpaces.{sixteen}
 use Rattle.nets.specs.Window.{low-end, high-end}
-use Rattle.format.specs.Reading.{transitionIn, bytes}
+use Rattle.format.specs.Reading.{transitionIn}
 use Rattle.search.specs.Searched.{Answer, Best, Without}
 use Rattle.crossing.specs.Crosses.{space}
 use Rattle.crossing.proofs.Crossed.{ends, kept-so, row-so, shown-so}

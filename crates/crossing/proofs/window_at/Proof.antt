@@ -1,9 +1,9 @@
 -- `window_at` meets its contract: the ends are made of the constant and the two values.
-use mathlib.Core.Path.{_≡_, refl, _∙_, sym, ap, subst}
+use mathlib.Core.Path.{_≡_, _∙_}
 use Prim.Native.Nat.{_+_}
 use borrow.Author.Needs.{needs, sfits-of}
 use lib.ListN.{take}
-use mir.Syntax.{w16, w32}
+use mir.Syntax.{w32}
 use mir.Val.{toZ, ofZ}
 use mir.Facts.{toZ-ofZ}
 use Rattle.nets.specs.HalfSpaces.{value}

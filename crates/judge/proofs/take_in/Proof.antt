@@ -1,6 +1,5 @@
 -- `take_in` meets its contract: each turn takes in at least one byte more, within what is left of the room.
-use native.Mathlib.Omega.{arith}
-use Prim.Native.Nat.{_+_, _-_, _≤_}
+use Prim.Native.Nat.{_-_, _≤_}
 use mathlib.Core.Path.{_≡_}
 use lib.ListN.{length}
 use borrow.Author.Needs.{needs}

@@ -1,5 +1,5 @@
 -- `krunvedo_refusal_text` meets its contract: the line of a refusal has its number and its detail's value alone.
-use mathlib.Core.Path.{_≡_, refl, _∙_, ap, subst}
+use mathlib.Core.Path.{_≡_, _∙_, ap, subst}
 use mathlib.Core.Bool.{Bool, true, false}
 use mathlib.Core.List.{List, _++_}
 use Prim.Native.Nat.{ℕ}

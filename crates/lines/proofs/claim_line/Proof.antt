@@ -1,9 +1,7 @@
 -- `lines::claim_line` meets its contract: the pieces stand one behind the other, each of few bytes.
-use mathlib.Core.Path.{_≡_, _∙_}
-use mathlib.Core.List.{List, _++_}
-use Prim.Native.Nat.{ℕ, _+_, _≤_}
+use mathlib.Core.List.{_++_}
 use native.Mathlib.Omega.{arith}
-use lib.ListN.{length, take}
+use lib.ListN.{take}
 use Rattle.text.specs.Bytes.{chars, decimal}
 use Rattle.text.proofs.Writing.{wrote-then}
 use Rattle.lines.specs.Lines.{newline, answerText, twinText}

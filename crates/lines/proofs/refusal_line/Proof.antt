@@ -1,7 +1,6 @@
 -- `lines::refusal_line` meets its contract: the pieces stand one behind the other. A byte has three digits, a detail twenty.
-use mathlib.Core.Path.{_≡_}
-use mathlib.Core.List.{List, _++_}
-use Prim.Native.Nat.{ℕ, _+_, _≤_}
+use mathlib.Core.List.{_++_}
+use Prim.Native.Nat.{_≤_}
 use native.Mathlib.Omega.{arith}
 use lib.ListN.{length}
 use Rattle.text.specs.Bytes.{chars, decimal}

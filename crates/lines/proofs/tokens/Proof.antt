@@ -1,13 +1,13 @@
 -- `lines::tokens` meets its contract: after p turns the tokens of the first p places are written, in at most six bytes each.
-use mathlib.Core.Path.{_≡_, refl, sym, ap, _∙_, subst}
+use mathlib.Core.Path.{_≡_, refl, sym, _∙_, subst}
 use mathlib.Core.List.{List, [], _++_}
 use Prim.Native.Nat.{ℕ, _+_, _*_, _-_, _≤_}
 use native.Mathlib.Omega.{arith}
-use lib.ListN.{length, take, getD, length-append}
+use lib.ListN.{length, take, getD}
 use Rattle.text.specs.Bytes.{chars, decimal, Wrote}
 use Rattle.text.proofs.Writing.{wrote-then, wrote-nothing}
 use Rattle.lines.specs.Lines.{tokensText}
-use Rattle.lines.proofs.Texts.{tokens-next, one-short}
+use Rattle.lines.proofs.Texts.{tokens-next}
 use borrow.Author.Needs.{needs}
 use mir.Syntax.{w16}
 use borrow.Kind.Array.{eInt, good-length}

@@ -1,10 +1,8 @@
 -- `lines::verdict` meets its contract: each arm writes the words of its case.
-use mathlib.Core.Path.{_≡_, refl, sym, ap, _∙_, subst}
-use mathlib.Core.List.{List, [], _++_}
-use Prim.Native.Nat.{ℕ, _+_, _≤_, _<_}
+use mathlib.Core.Path.{sym, subst}
 use native.Mathlib.Omega.{arith}
-use lib.ListN.{length, take}
-use Rattle.text.specs.Bytes.{Wrote, chars, decimal}
+use lib.ListN.{take}
+use Rattle.text.specs.Bytes.{Wrote}
 use Rattle.text.proofs.Writing.{wrote-then, wrote-nothing}
 use Rattle.judging.specs.declared.Answer.{Answer}
 use Rattle.lines.specs.Lines.{tokensText, answerText, Brief}

@@ -1,15 +1,15 @@
 -- `line` meets its contract: the claim's verdict and its twin, in the words of the definition.
-use mathlib.Core.Path.{_≡_, refl, sym, ap, _∙_, subst}
+use mathlib.Core.Path.{refl, sym, ap, _∙_, subst}
 use mathlib.Core.List.{List, _++_}
-use Prim.Native.Nat.{ℕ, _+_, _≤_}
+use Prim.Native.Nat.{ℕ}
 use native.Mathlib.Omega.{arith}
-use lib.ListN.{length, take}
+use lib.ListN.{take}
 use Rattle.format.specs.Contents.{Contents, halfSpace, claim}
 use Rattle.format.proofs.ClaimRecord.{sheet-of}
 use Rattle.sheet.proofs.Known.{same-contents, limits}
 use Rattle.text.specs.Bytes.{Wrote, chars, decimal}
 use Rattle.judging.specs.declared.Judged.{Judged}
-use Rattle.lines.specs.Lines.{newline, answerText, answerLine, verdictText, twinText, claimLine, Brief}
+use Rattle.lines.specs.Lines.{newline, answerText, twinText, claimLine, Brief}
 use Rattle.listing.specs.Listed.{IsLine}
 use Rattle.listing.proofs.Lined.{twin-small, brief, same-text}
 use borrow.Author.Needs.{needs}

@@ -1,9 +1,9 @@
 -- `listing_of` meets its contract: the refusals come in their order, and what was written is the listing.
 use mathlib.Core.Path.{_≡_, refl, _∙_, sym, ap, subst}
-use mathlib.Core.List.{List, _++_}
+use mathlib.Core.List.{List}
 use Prim.Native.Nat.{ℕ}
-use lib.ListN.{length, drop}
-use Rattle.format.specs.Read.{Read, sound, refused}
+use lib.ListN.{length}
+use Rattle.format.specs.Read.{Read}
 use Rattle.format.specs.Contents.{Contents}
 use Rattle.format.specs.Reading.{reading}
 use Rattle.reader.specs.Answers.{IsMalformed}

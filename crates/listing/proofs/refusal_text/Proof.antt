@@ -1,7 +1,6 @@
 -- `refusal_text` meets its contract: the line stands at the start, and what stood behind it still does.
-use mathlib.Core.Path.{_≡_, refl, sym, ap, _∙_, subst}
+use mathlib.Core.Path.{refl, ap, subst}
 use Prim.Native.Nat.{ℕ}
-use native.Mathlib.Omega.{arith}
 use lib.ListN.{length}
 use borrow.Author.Tests.{lt-leb, le-leb}
 use Rattle.text.specs.Bytes.{Wrote}

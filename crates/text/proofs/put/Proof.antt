@@ -4,9 +4,8 @@ use mathlib.Core.List.{List, _++_}
 use Prim.Native.Nat.{ℕ, suc, _+_, _-_, _≤_}
 use native.Mathlib.Omega.{arith}
 use lib.ListN.{length, take, drop, set, getD, length-set}
-use lib.Seq.{paste, paste-zero, paste-suc, take-paste, drop-paste, length-paste, take-length}
+use lib.Seq.{paste, paste-zero, paste-suc, take-paste, drop-paste, take-length}
 use borrow.Author.Needs.{needs}
-use Rattle.text.specs.Bytes.{Wrote}
 use Rattle.text.proofs.put.Statement.{statement}
 use Rattle.text.proofs.put.Tie as tie
 

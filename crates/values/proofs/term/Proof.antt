@@ -2,7 +2,7 @@
 use mathlib.Core.Path.{_≡_, refl}
 use native.Mathlib.Omega.{arith}
 use borrow.Author.Needs.{needs}
-use lib.IntN.{ℤ, pos, negℤ, _*ℤ_}
+use lib.IntN.{pos, negℤ, _*ℤ_}
 use lib.Signed.{_≤ℤ_}
 use mir.Syntax.{w8, w32}
 use mir.Val.{toZ, ofZ}

@@ -1,5 +1,4 @@
 -- `walk_on` is safe and ends: the steps left fall, and the sheet lies within the room.
-use native.Mathlib.Omega.{arith}
 use Prim.Native.Nat.{_≤_}
 use lib.ListN.{length}
 use borrow.Author.Needs.{needs}

@@ -1,5 +1,4 @@
 -- `show::record` is safe and ends: it counts to the length.
-use native.Mathlib.Omega.{arith}
 use Prim.Native.Nat.{_-_, _≤_}
 use lib.ListN.{length}
 use borrow.Author.Needs.{needs}

@@ -1,9 +1,8 @@
 -- `window::beside` meets its contract: after p turns the first p sums stand there.
 use mathlib.Core.Path.{_≡_, refl, _∙_, sym, ap}
-use mathlib.Core.List.{List}
-use Prim.Native.Nat.{ℕ, _+_, _-_, _≤_, _<_}
+use Prim.Native.Nat.{_-_, _≤_}
 use native.Mathlib.Omega.{arith}
-use lib.ListN.{length, getD, set}
+use lib.ListN.{length, set}
 use Rattle.nets.specs.Nets.{_⊞_}
 use Rattle.nets.proofs.Vectors.{length-plus, getD-plus}
 use Rattle.rows.proofs.Filled.{filled, filled-step, filled-all, sixteen-full}

@@ -1,6 +1,6 @@
 -- `inside::inside_at` meets its contract: the numbers beyond place n are zero, so the value is that of the first n.
-use mathlib.Core.Path.{_≡_, refl, _∙_, sym, ap}
-use Prim.Native.Nat.{ℕ, _-_}
+use mathlib.Core.Path.{refl, _∙_, ap}
+use Prim.Native.Nat.{_-_}
 use native.Mathlib.Omega.{arith}
 use lib.ListN.{length, take}
 use mir.Syntax.{w8, w32}

@@ -1,7 +1,6 @@
 -- `inside::target_inside` meets its contract: the written target decides, and for kind 1 else whether some coefficient is above zero.
-use mathlib.Core.Path.{_≡_, sym, _∙_}
+use mathlib.Core.Path.{_≡_, sym}
 use native.Mathlib.Omega.{arith}
-use Prim.Native.Nat.{ℕ, _+_}
 use lib.ListN.{length, take}
 use lib.Seq.{length-take-le}
 use mir.Syntax.{w8}

@@ -1,15 +1,12 @@
 -- `transitions::breaks_at` meets its contract: the two values are those of the weights taken and put.
 use mathlib.Core.Path.{_≡_, sym, _∙_}
-use native.Mathlib.Omega.{arith}
 use lib.ListN.{take}
-use lib.IntN.{ℤ}
-use mir.Syntax.{w16, w32}
+use mir.Syntax.{w32}
 use mir.Val.{toZ, ofZ}
 use mir.Facts.{toZ-ofZ}
 use borrow.Author.Needs.{needs, sfits-of}
 use Rattle.nets.specs.HalfSpaces.{value}
 use Rattle.format.specs.Reading.{transitionIn}
-use Rattle.residues.specs.Told.{Limits, Moves}
 use Rattle.crossing.proofs.Crossed.{taken-range, put-range}
 use borrow.Author.Needs.{needs}
 use Rattle.judging.proofs.transitions.breaks_at.Statement.{statement}

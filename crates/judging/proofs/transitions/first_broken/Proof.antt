@@ -1,15 +1,12 @@
 -- `transitions::first_broken` meets its contract: after t turns the first t transitions keep the half space.
-use mathlib.Core.Path.{_≡_, refl, sym, ap, _∙_, subst}
-use mathlib.Core.Bool.{Bool, true, false}
-use mathlib.Core.List.{List}
-use Prim.Native.Nat.{ℕ, _+_, _*_, _-_, _≤_, _<_}
+use mathlib.Core.Path.{_≡_, ap, _∙_, subst}
+use mathlib.Core.Bool.{Bool}
+use Prim.Native.Nat.{ℕ, _+_, _*_, _-_, _≤_}
 use native.Mathlib.Omega.{arith}
-use lib.ListN.{length, take}
-use lib.IntN.{ℤ}
+use lib.ListN.{take}
 use mir.Syntax.{w16}
-use mir.Val.{toZ, ofZ}
+use mir.Val.{toZ}
 use mir.Facts.{toZ-ofZ}
-use Rattle.nets.specs.Nets as nets
 use Rattle.nets.specs.HalfSpaces as spaces
 use Rattle.format.specs.Read.{sound}
 use Rattle.format.specs.Contents.{Contents}

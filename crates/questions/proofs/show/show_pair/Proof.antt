@@ -1,8 +1,5 @@
 -- `show::show_pair` is safe and ends: it counts to 16.
-use mathlib.Core.Path.{_≡_}
-use native.Mathlib.Omega.{arith}
 use Prim.Native.Nat.{_-_, _≤_}
-use lib.ListN.{length, length-set}
 use borrow.Author.Needs.{needs}
 use Rattle.questions.proofs.show.show_pair.Statement.{statement}
 use Rattle.questions.proofs.show.show_pair.Tie as tie

@@ -1,7 +1,5 @@
 -- `show::marking` is safe and ends: it counts to 16.
-use native.Mathlib.Omega.{arith}
 use Prim.Native.Nat.{_-_, _≤_}
-use lib.ListN.{length}
 use borrow.Author.Needs.{needs}
 use Rattle.walks.proofs.show.marking.Statement.{statement}
 use Rattle.walks.proofs.show.marking.Tie as tie
