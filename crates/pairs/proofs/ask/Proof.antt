@@ -1,8 +1,11 @@
 -- `ask` meets its contract: the question in the first 20,000 entries of both areas, which are wiped after it.
 use mathlib.Core.Path.{_≡_, sym, _∙_}
-use lib.ListN.{length, take}
+use mathlib.Core.List.{List, _++_}
+use Prim.Native.Nat.{ℕ, _≤_}
+use lib.ListN.{length, take, drop}
 use lib.Seq.{length-take-le}
 use Rattle.lent.proofs.Lent.{lent-length, lent-enough, lent-wiped}
+use Rattle.pairs.specs.Pairs.{Asked}
 use Rattle.pairs.proofs.ask.Statement.{statement}
 use Rattle.pairs.proofs.ask.Tie as tie
 
@@ -25,33 +28,51 @@ slice-relend-prefix-ask-in-2 c = c .before .before .before .before .pre .1 .1
 slice-aggregate-ask-in-2 : tie.Need-slice-aggregate-ask-in-2
 slice-aggregate-ask-in-2 c = sym (queue-long (c .before .before .before .before .before))
 
+-- what the inner question asks, over the start, where it is known
+asks : (c : tie.Start) → Asked (c .args .sheet .now) (c .args .counts) (c .args .i) (c .args .t) × ((length (take 20000 (c .args .marks .now)) ≡ 20000) × (length (take 20000 (c .args .queue .now)) ≡ 20000))
+asks c = (c .pre .0, (marks-long c, queue-long c))
+
 ask-in-requires : tie.Need-ask-in-requires
-ask-in-requires c κs = (c .before .before .before .before .before .pre .0, (marks-long (c .before .before .before .before .before), queue-long (c .before .before .before .before .before)))
+ask-in-requires c κs = asks (c .before .before .before .before .before)
+
+-- what comes back of each part is as long as it was lent
+module _ (c : tie.After-ask-in) where
+  abbrev start : tie.Start
+  start = c .before .before .before .before .before .before
+
+  abbrev marks-part : List ℕ
+  marks-part = c .ask-in .last .1 .1 .1 .1 .0
+
+  abbrev queue-part : List ℕ
+  queue-part = c .ask-in .last .1 .1 .1 .1 .1 .0
+
+  marks-back : length marks-part ≡ length (take 20000 (start .args .marks .now))
+  marks-back = c .ask-in .kept .1 .1 .1 .1 .0
+
+  queue-back : length queue-part ≡ length (take 20000 (start .args .queue .now))
+  queue-back = c .ask-in .kept .1 .1 .1 .1 .1 .0
+
+  enough : (20000 ≤ length (marks-part ++ drop 20000 (start .args .marks .now))) × (20000 ≤ length (queue-part ++ drop 20000 (start .args .queue .now)))
+  enough = (lent-enough 20000 marks-part (start .args .marks .now) marks-back (start .pre .1 .0), lent-enough 20000 queue-part (start .args .queue .now) queue-back (start .pre .1 .1))
 
 wipe-requires : tie.Need-wipe-requires
-wipe-requires c κs =
-    let s = c .before .before .before .before .before .before .before .before .before .before .before .before in
-    let r = c .before .before .before .before .before .before .ask-in in
-    (lent-enough 20000 (r .last .1 .1 .1 .1 .0) (s .args .marks .now) (r .kept .1 .1 .1 .1 .0) (s .pre .1 .0), lent-enough 20000 (r .last .1 .1 .1 .1 .1 .0) (s .args .queue .now) (r .kept .1 .1 .1 .1 .1 .0) (s .pre .1 .1))
+wipe-requires c κs = enough (c .before .before .before .before .before .before)
 
 same-length : tie.Need-same-length
 same-length c =
-    let s = c .before .before .before .before .before .before .before .before .before .before .before .before .before .before .before .before .before in
-    let r = c .before .before .before .before .before .before .before .before .before .before .before .ask-in in
-    c .before .before .before .before .wipe .kept .0 ∙ lent-length 20000 (r .last .1 .1 .1 .1 .0) (s .args .marks .now) (r .kept .1 .1 .1 .1 .0) (s .pre .1 .0)
+    let r = c .before .before .before .before .before .before .before .before .before .before .before in
+    c .before .before .before .before .wipe .kept .0 ∙ lent-length 20000 (marks-part r) (start r .args .marks .now) (marks-back r) (start r .pre .1 .0)
 
 same-length-2 : tie.Need-same-length-2
 same-length-2 c =
-    let s = c .before .before .before .before .before .before .before .before .before .before .before .before .before .before .before .before .before in
-    let r = c .before .before .before .before .before .before .before .before .before .before .before .ask-in in
-    c .before .before .before .before .wipe .kept .1 .0 ∙ lent-length 20000 (r .last .1 .1 .1 .1 .1 .0) (s .args .queue .now) (r .kept .1 .1 .1 .1 .1 .0) (s .pre .1 .1)
+    let r = c .before .before .before .before .before .before .before .before .before .before .before in
+    c .before .before .before .before .wipe .kept .1 .0 ∙ lent-length 20000 (queue-part r) (start r .args .queue .now) (queue-back r) (start r .pre .1 .1)
 
 returns : tie.Need-returns
 returns c =
-    let s = c .before .before .before .before .before .before .before .before .before .before .before .before .before .before .before .before .before in
-    let r = c .before .before .before .before .before .before .before .before .before .before .before .ask-in in
+    let r = c .before .before .before .before .before .before .before .before .before .before .before in
     let w = c .before .before .before .before .wipe in
-    (r .ensures, (lent-wiped 20000 (r .last .1 .1 .1 .1 .0) (s .args .marks .now) (w .last .0) (r .kept .1 .1 .1 .1 .0) (s .pre .1 .0) (w .ensures .0), lent-wiped 20000 (r .last .1 .1 .1 .1 .1 .0) (s .args .queue .now) (w .last .1 .0) (r .kept .1 .1 .1 .1 .1 .0) (s .pre .1 .1) (w .ensures .1)))
+    (r .ask-in .ensures, (lent-wiped 20000 (marks-part r) (start r .args .marks .now) (w .last .0) (marks-back r) (start r .pre .1 .0) (w .ensures .0), lent-wiped 20000 (queue-part r) (start r .args .queue .now) (w .last .1 .0) (queue-back r) (start r .pre .1 .1) (w .ensures .1)))
 
 pub ask-spec : {M : Type 1} → statement M
 ask-spec =
