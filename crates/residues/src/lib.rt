@@ -71,7 +71,7 @@ fn raised(lo: i32) -> usize
 }
 
 // Whether some value that is reached lies in lo .. hi. A multiple of `least` is one, so at most that many values are looked at.
-pub fn meets(least: usize, table: &[u16], lo: i32, hi: i32) -> bool
+fn meets(least: usize, table: &[u16], lo: i32, hi: i32) -> bool
     requires { ⌜ Usable least (now table) ⌝ }
     ensures { λ r. ⌜ ((ss : List ℕ) → Exact ss least (now (table .entry)) → hi ≤ℤ pos 5000 → Says r (SomeIn ss lo hi)) ⌝ }
 {
