@@ -18,8 +18,8 @@ use signs::smallest;
 use signs::sort_of;
 use table::after;
 use table::fill;
-use table::wide;
 use terms::Place;
+use terms::wide16;
 
 // All coefficients are zero; some are above zero and none below; some below and none above; both.
 pub enum Sort {
@@ -82,7 +82,7 @@ fn meets(least: usize, table: &[u16], lo: i32, hi: i32) -> bool
     let mut v = raised(lo);
     let mut r = v % least;
     while v <= end {
-        if wide(table[r]) <= v {
+        if wide16(table[r]) <= v {
             return true;
         }
         v += 1;
