@@ -2,15 +2,11 @@
 // bytes of its length; each is answered on lines of its own.
 mod show; // show.rt: what each call answers, in words
 
+use rows::two_bytes;
 use show::show_all;
 use show::show_answer;
 
 const STDIN: i32 = 0;
-
-// Two bytes, the low one first.
-fn length_of(lo: u8, hi: u8) -> usize {
-    (lo as usize) + 256 * (hi as usize)
-}
 
 // Answers the sheet that fills the room.
 fn answer_sheet(room: &mut [u8], all: bool) {
@@ -28,7 +24,7 @@ fn next_sheet(room: &mut [u8]) -> bool {
     if came < 3 {
         return false;
     }
-    let length = length_of(head[1], head[2]);
+    let length = two_bytes(&head, 1) as usize;
     if room.len() < length {
         return false;
     }

@@ -1,29 +1,19 @@
 // What each call answers, in words.
 use reader::Reading;
+use shown::number;
+use shown::refusal;
+use shown::say;
+use shown::tokens;
 use terms::Check;
 use terms::Claim;
 use terms::Kind;
 use terms::Place;
-use terms::Refusal;
 use terms::Transition;
 
 const STDOUT: i32 = 1;
 
-fn say(words: &[u8]) {
-    io::write_all(STDOUT, words);
-}
-
-fn number(n: u64) {
-    say(b" ");
-    io::print_decimal(STDOUT, n);
-}
-
 fn number8(b: u8) {
     number(b as u64);
-}
-
-fn number16(w: u16) {
-    number(w as u64);
 }
 
 fn signed(z: i16) {
@@ -37,13 +27,6 @@ fn signed(z: i16) {
 
 fn signed8(k: i8) {
     signed(k as i16);
-}
-
-fn refusal(r: Refusal) {
-    say(b"refused");
-    number(r.number as u64);
-    say(b" at");
-    number(r.value() as u64);
 }
 
 fn check(c: Check) {
@@ -72,12 +55,6 @@ fn bytes(words: &[u8], row: [u8; Place::MOST]) {
     say(words);
     for p in 0..Place::MOST {
         number8(row[p]);
-    }
-}
-
-fn tokens(row: [u16; Place::MOST]) {
-    for p in 0..Place::MOST {
-        number16(row[p]);
     }
 }
 

@@ -9,12 +9,7 @@ ghost use Rattle.firing.specs.Weighted.{weighted};
 use terms::Check;
 use terms::Place;
 use terms::Refusal;
-
-fn wide(weight: u8) -> u16
-    ensures { λ r. ⌜ (r ≡ weight) × (r ≤ 255) ⌝ }
-{
-    weight as u16
-}
+use terms::wide;
 
 // The lowest place that has fewer tokens than are taken.
 pub fn short(tokens: [u16; Place::MOST], taken: [u8; Place::MOST], n: usize) -> Check

@@ -54,7 +54,7 @@ impl Judged {
 }
 
 // The coefficients k and the constant c, against the net, the start and the target of a sound sheet.
-pub fn judge_space(
+fn judge_space(
     k: [i8; Place::MOST],
     c: i16,
     sheet: &[u8],

@@ -67,6 +67,7 @@ fn verdict(text: &mut [u8], at: usize, judged: Judged, n: usize) -> usize
             tokens(text, end, marking, n)
         }
         Answer::Proof => put(text, at, b"proof"),
+        // The type has this case for `verdict_of`; a claim that is listed was judged, and is never refused.
         Answer::Refused(_) => at,
     }
 }

@@ -1,6 +1,5 @@
 -- What is printed, over areas that are long enough: a listing that was written is the page, and a refusal's line is otherwise.
 use mathlib.Core.Path.{_≡_, sym, ap, _∙_, subst}
-use mathlib.Core.Bool.{Bool, true}
 use mathlib.Core.List.{List, _++_}
 use Prim.Native.Nat.{ℕ, _≤_}
 use native.Mathlib.Omega.{arith}
@@ -12,10 +11,12 @@ use Rattle.format.specs.Read.{Read, sound, refused}
 use Rattle.format.specs.Contents.{Contents}
 use Rattle.terms.specs.declared.Check.{Check}
 use Rattle.terms.specs.declared.Check.the-variants.{Fine}
+use Rattle.text.specs.Bytes.{Wrote}
+use Rattle.text.proofs.Writing.{length-written, whole}
 use Rattle.lines.specs.Lines.{refusalLine}
 use Rattle.listing.specs.declared.Listed.{Listed}
 use Rattle.listing.specs.declared.Listed.the-variants as listed
-use Rattle.listing.specs.Listed.{IsListed, Lists, IsListing, IsPage, Starts, IsRefusalText, RefusalWritten, roomCheck}
+use Rattle.listing.specs.Listed.{IsListed, Lists, IsListing, IsPage, Starts, roomCheck}
 
 -- areas that are long enough are not refused
 pub all-fit : (m l room : ℕ) → 20000 ≤ m → 20000 ≤ l → 4096 ≤ room → roomCheck m l room ≡ Fine
@@ -41,15 +42,8 @@ not-both r n q e f = let z : _≡_ {A = ℕ} 0 1 = cc in omega arith
 same-refusal : (r : Listed) (p q : Refusal) → r ≡ listed.Refused p → r ≡ listed.Refused q → p ≡ q
 same-refusal r p q e f = cc
 
-module _ (r : Refusal) (old new : List ℕ) (e : Listed) (l : 4096 ≤ length old) (w : IsRefusalText r old new e) where
-  line-written : RefusalWritten true r old new e
-  line-written = subst (λ (t : Bool). RefusalWritten t r old new e) (le-leb 4096 (length old) l) w
-
-  pub line-there : (n : ℕ) → e ≡ listed.Written n → (take n new ≡ refusalLine r) × Starts n old new
-  line-there n is = starts (refusalLine r) old new n (written-number e (length (refusalLine r)) n is (line-written .0)) (line-written .1)
-
-  pub line-fits : (q : Refusal) → e ≡ listed.Refused q → ⊥
-  line-fits q is = not-both e (length (refusalLine r)) q (line-written .0) is
+pub line-there : (r : Refusal) (old new : List ℕ) (n : ℕ) → Wrote (refusalLine r) old 0 new n → (take n new ≡ refusalLine r) × Starts n old new
+line-there r old new n w = starts (refusalLine r) old new n (length-written (refusalLine r) old new n w) (whole (refusalLine r) old new n w)
 
 module _ (m l : ℕ) (old new : List ℕ) (e : Listed) (enough : roomCheck m l (length old) ≡ Fine) where
   listed-so : (x : Contents) → IsListed (sound x) m l old new e → Lists Fine x old new e

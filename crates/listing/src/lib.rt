@@ -128,6 +128,16 @@ pub fn listing_of(sheet: &[u8], marks: &mut [u8], queue: &mut [u16], text: &mut 
     Listed::Written(end)
 }
 
+// The line of a refusal, at the start of a text that is long enough.
+fn refusal_page(r: Refusal, text: &mut [u8]) -> usize
+    requires { ⌜ 4096 ≤ length (now text) ⌝ }
+    ensures { λ n. ⌜ Wrote (refusalLine r) (now (text .entry)) 0 (now (text .exit)) n ⌝ }
+{
+    let number = r.number;
+    let detail = r.value();
+    refusal_line(text, 0, number, detail)
+}
+
 // The line of a refusal, at the start of the text.
 pub fn refusal_text(r: Refusal, text: &mut [u8]) -> Listed
     ensures { λ e. ⌜ IsRefusalText r (now (text .entry)) (now (text .exit)) e ⌝ }
@@ -135,22 +145,8 @@ pub fn refusal_text(r: Refusal, text: &mut [u8]) -> Listed
     if text.len() < Text::SIZE {
         return Listed::Refused(Refusal::small_text());
     }
-    let number = r.number;
-    let detail = r.value();
-    let end = refusal_line(text, 0, number, detail);
+    let end = refusal_page(r, text);
     Listed::Written(end)
-}
-
-// The line of a refusal in a text that is long enough.
-fn refusal_page(r: Refusal, text: &mut [u8]) -> usize
-    requires { ⌜ 4096 ≤ length (now text) ⌝ }
-    ensures { λ n. ⌜ take n (now (text .exit)) ≡ refusalLine r ⌝ }
-    ensures { λ n. ⌜ Starts n (now (text .entry)) (now (text .exit)) ⌝ }
-{
-    match refusal_text(r, text) {
-        Listed::Written(end) => end,
-        Listed::Refused(_) => 0,
-    }
 }
 
 // What a program prints of a sheet, at the start of the text: the listing, or the line of the refusal.

@@ -1,4 +1,5 @@
 // What the lent areas hold before a question, sevens, and what is left in them afterwards.
+ghost use Prim.Native.Nat.{_≤_};
 use terms::Area;
 
 const SEVEN: u8 = 7;
@@ -16,7 +17,9 @@ pub struct Sizes {
 }
 
 // How large the two areas are.
-pub fn sizes_of(kind: u8) -> Sizes {
+pub fn sizes_of(kind: u8) -> Sizes
+    ensures { λ r. ⌜ (r .marks ≤ 20008) × (r .queue ≤ 20008) ⌝ }
+{
     match kind {
         1 => Sizes {
             marks: TOO_FEW,

@@ -1,5 +1,8 @@
 // questions: for the tests. Standard input has many questions: a claim number, a transition number (two bytes each, the low one
 // first), a byte that says how large the areas are, the sheet's length (two bytes) and the sheet. Each is answered on a line.
+ghost use Prim.Native.Nat.{_≤_};
+ghost use lib.ListN.{length};
+
 mod areas; // areas.rt: what the lent areas hold before and afterwards
 mod show; // show.rt: the answer in words
 
@@ -26,28 +29,19 @@ fn ask(sheet: &[u8], i: usize, t: usize, marks: &mut [u8], queue: &mut [u16]) {
 }
 
 // Reads the sheet into the room and asks.
-fn question(
-    room: &mut [u8],
-    i: usize,
-    t: usize,
-    sizes: Sizes,
-    marks: &mut [u8],
-    queue: &mut [u16],
-) {
+fn question(room: &mut [u8], i: usize, t: usize, sizes: Sizes, marks: &mut [u8], queue: &mut [u16])
+    requires { ⌜ (sizes .marks ≤ length (now marks)) × (sizes .queue ≤ length (now queue)) ⌝ }
+{
     let n = io::read_full(STDIN, room);
     let m = sizes.marks;
     let q = sizes.queue;
-    if marks.len() < m {
-        return;
-    }
-    if queue.len() < q {
-        return;
-    }
     ask(&room[..n], i, t, &mut marks[..m], &mut queue[..q]);
 }
 
 // Answers one question, and says whether there was one.
-fn next_question(room: &mut [u8], marks: &mut [u8], queue: &mut [u16]) -> bool {
+fn next_question(room: &mut [u8], marks: &mut [u8], queue: &mut [u16]) -> bool
+    requires { ⌜ (20008 ≤ length (now marks)) × (20008 ≤ length (now queue)) ⌝ }
+{
     let mut head = [0u8; 7];
     let came = io::read_full(STDIN, &mut head);
     if came < 7 {

@@ -2,30 +2,9 @@
 use super::areas::Left;
 use pairs::Answer;
 use pairs::Pair;
-use terms::Place;
-use terms::Refusal;
-
-const STDOUT: i32 = 1;
-
-fn say(words: &[u8]) {
-    io::write_all(STDOUT, words);
-}
-
-fn number(n: u64) {
-    say(b" ");
-    io::print_decimal(STDOUT, n);
-}
-
-fn number16(w: u16) {
-    number(w as u64);
-}
-
-fn refusal(r: Refusal) {
-    say(b"refused");
-    number(r.number as u64);
-    say(b" at");
-    number(r.value() as u64);
-}
+use shown::refusal;
+use shown::say;
+use shown::tokens;
 
 fn answer(a: Answer) {
     match a {
@@ -41,9 +20,7 @@ pub fn show_pair(p: Pair) {
     answer(a);
     say(b" marking");
     let m = p.marking;
-    for q in 0..Place::MOST {
-        number16(m[q]);
-    }
+    tokens(m);
 }
 
 fn area(left: Left) {

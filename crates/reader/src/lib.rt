@@ -12,13 +12,13 @@ use terms::Check;
 use terms::Refusal;
 
 // The numbers of places and transitions.
-pub struct Extent {
+pub(crate) struct Extent {
     pub places: usize,
     pub transitions: usize,
 }
 
 // A net's extent, or the refusal of the sheet's first fault so far.
-pub enum Measured {
+pub(crate) enum Measured {
     As(Extent),
     Faulty(Refusal),
 }

@@ -18,8 +18,8 @@ use signs::smallest;
 use signs::sort_of;
 use table::after;
 use table::fill;
-use table::wide;
 use terms::Place;
+use terms::wide16;
 
 // All coefficients are zero; some are above zero and none below; some below and none above; both.
 pub enum Sort {
@@ -71,7 +71,7 @@ fn raised(lo: i32) -> usize
 }
 
 // Whether some value that is reached lies in lo .. hi. A multiple of `least` is one, so at most that many values are looked at.
-pub fn meets(least: usize, table: &[u16], lo: i32, hi: i32) -> bool
+fn meets(least: usize, table: &[u16], lo: i32, hi: i32) -> bool
     requires { ⌜ Usable least (now table) ⌝ }
     ensures { λ r. ⌜ ((ss : List ℕ) → Exact ss least (now (table .entry)) → hi ≤ℤ pos 5000 → Says r (SomeIn ss lo hi)) ⌝ }
 {
@@ -82,7 +82,7 @@ pub fn meets(least: usize, table: &[u16], lo: i32, hi: i32) -> bool
     let mut v = raised(lo);
     let mut r = v % least;
     while v <= end {
-        if wide(table[r]) <= v {
+        if wide16(table[r]) <= v {
             return true;
         }
         v += 1;

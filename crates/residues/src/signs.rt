@@ -39,7 +39,7 @@ fn some_below(k: &[i8]) -> bool
     false
 }
 
-pub fn sort_of(k: &[i8]) -> Sort
+pub(crate) fn sort_of(k: &[i8]) -> Sort
     ensures { λ r. ⌜ IsSort (now (k .entry)) r ⌝ }
 {
     let below = some_below(k);
@@ -50,7 +50,7 @@ pub fn sort_of(k: &[i8]) -> Sort
     }
 }
 
-pub fn size_of(k: i8) -> usize
+pub(crate) fn size_of(k: i8) -> usize
     ensures { λ r. ⌜ (r ≡ natAbs k) × (r ≤ 128) ⌝ }
 {
     size(k as i16) as usize
@@ -67,7 +67,7 @@ fn smaller(s: usize, m: usize) -> usize
 }
 
 // The smallest size but 0.
-pub fn smallest(k: &[i8]) -> usize
+pub(crate) fn smallest(k: &[i8]) -> usize
     requires { ⌜ Within (sizes (now k)) × NotAll0 (sizes (now k)) ⌝ }
     ensures { λ r. ⌜ Smallest (sizes (now (k .entry))) r ⌝ }
 {

@@ -7,15 +7,10 @@ ghost use Rattle.residues.specs.Sums.{sizes};
 ghost use Rattle.residues.specs.Steps.{Blank, Closed, Ready, Swept, Tabled};
 use crate::signs::size_of;
 use terms::Constant;
+use terms::wide16;
 
 // One more than the largest constant: no window asks for a value of that size.
 const FAR: u16 = Constant::MOST as u16 + 1;
-
-pub fn wide(x: u16) -> usize
-    ensures { λ r. ⌜ r ≡ x ⌝ }
-{
-    x as usize
-}
 
 // The remainder s behind r.
 pub fn after(r: usize, s: usize, a: usize) -> usize
@@ -47,9 +42,9 @@ fn chain(table: &mut [u16], k: usize, s: usize, start: usize)
     ensures { λ _. ⌜ Swept (length (now (table .entry))) k (start + 1) (now (table .entry)) (now (table .exit)) ⌝ }
 {
     let a = table.len();
-    let mut v = wide(table[start]) + k;
+    let mut v = wide16(table[start]) + k;
     let mut next = after(start, s, a);
-    while v < wide(table[next]) {
+    while v < wide16(table[next]) {
         table[next] = v as u16;
         v += k;
         next = after(next, s, a);
@@ -74,7 +69,7 @@ fn take_in(table: &mut [u16], k: usize)
     requires { ⌜ (0 < length (now table)) × (length (now table) ≤ 100) × (k ≤ 128) × (getD (now table) 0 0 ≡ 0) ⌝ }
     ensures { λ _. ⌜ ((ss : List ℕ) → Tabled (length (now (table .entry))) ss (now (table .entry)) → Tabled (length (now (table .entry))) (k ∷ ss) (now (table .exit))) ⌝ }
 {
-    if wide(table[k % table.len()]) <= k {
+    if wide16(table[k % table.len()]) <= k {
         return;
     }
     sweep(table, k);

@@ -7,7 +7,7 @@ ghost use Rattle.search.specs.State.{Sizes, Entry, Trailed};
 ghost use Rattle.search.specs.Table.{Room, Leads};
 use crate::steps::Reached;
 use crate::steps::reach;
-use crate::steps::wide16;
+use terms::wide16;
 
 pub fn wide8(x: u8) -> usize
     ensures { λ r. ⌜ r ≡ x ⌝ }

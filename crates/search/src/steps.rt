@@ -4,17 +4,12 @@ ghost use Prim.Native.Nat.{_<_, _≤_};
 ghost use lib.ListN.{length, getD, replicate};
 ghost use Rattle.signed.specs.Parts.{P, N};
 ghost use Rattle.search.specs.State.{Next, State, Sizes, Visited, Expanded, Reaches};
+use terms::wide16;
 
 // The queue's entry that was looked for.
 pub enum Reached {
     At(usize),
     Nowhere,
-}
-
-pub fn wide16(x: u16) -> usize
-    ensures { λ r. ⌜ r ≡ x ⌝ }
-{
-    x as usize
 }
 
 // The position one step of k from v, and v itself where that lies outside the table. The sum is taken modulo 2^32, where one below 0

@@ -1,5 +1,6 @@
 // The words of document 01 as types: numbers of places, transitions and claims, the limits of each field, and refusals.
 ghost use mathlib.Core.Path.{_≡_};
+ghost use Prim.Native.Nat.{_≤_};
 ghost use lib.IntN.{natAbs};
 ghost use Rattle.signed.specs.Twos.{twos8, twos16};
 ghost use Rattle.terms.specs.Limits.{among as isAmong, weightFits, coefficientFits, constantFits, areasFit};
@@ -168,6 +169,20 @@ pub fn size(x: i16) -> u32
 {
     let w = x as i32;
     if w < 0 { (0 - w) as u32 } else { w as u32 }
+}
+
+// A byte, as wide as a number of tokens.
+pub fn wide(x: u8) -> u16
+    ensures { λ r. ⌜ (r ≡ x) × (r ≤ 255) ⌝ }
+{
+    x as u16
+}
+
+// A number of tokens, as wide as a position.
+pub fn wide16(x: u16) -> usize
+    ensures { λ r. ⌜ r ≡ x ⌝ }
+{
+    x as usize
 }
 
 // What a refusal's detail counts.

@@ -27,7 +27,7 @@ fn last(text: &mut [u8], at: usize, d: usize) -> usize
 }
 
 // A number in plain decimal: the tenth part first, and the last digit behind it.
-pub fn number(text: &mut [u8], at: usize, n: usize) -> usize
+fn number(text: &mut [u8], at: usize, n: usize) -> usize
     requires { ⌜ at + length (decimal n) ≤ length (now text) ⌝ }
     ensures { λ r. ⌜ Wrote (decimal n) (now (text .entry)) at (now (text .exit)) r ⌝ }
 {

@@ -12,9 +12,9 @@ ghost use Rattle.sheet.specs.Known.{Known};
 ghost use Rattle.twins.specs.Divisors.{spaceOf};
 ghost use Rattle.twins.specs.Answers.{noForm, IsReducedOf, IsTwinNumber, IsTwinOf};
 
-pub mod euclid; // euclid.rt: greatest common divisors
+mod euclid; // euclid.rt: greatest common divisors
 mod multiples; // multiples.rt: a claim that is a number of times a form
-pub mod reduction; // reduction.rt: the reduced form, as numbers
+mod reduction; // reduction.rt: the reduced form, as numbers
 
 use layout::behind_claims;
 use multiples::is_multiple;

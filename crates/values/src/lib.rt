@@ -7,18 +7,13 @@ ghost use lib.ListN.{length, take};
 ghost use Rattle.nets.specs.HalfSpaces.{value};
 ghost use Rattle.format.specs.Reading.{bytes};
 use terms::Place;
+use terms::wide;
 
 // A coefficient times the tokens of its place.
 fn term(k: i8, tokens: u16) -> i32
     ensures { λ r. ⌜ (r ≡ k *ℤ pos tokens) × (negsuc 8388479 ≤ℤ r) × (r ≤ℤ pos 8388480) ⌝ }
 {
     (k as i32) * (tokens as i32)
-}
-
-fn wide(weight: u8) -> u16
-    ensures { λ r. ⌜ r ≡ weight ⌝ }
-{
-    weight as u16
 }
 
 // The value of sixteen numbers of tokens.

@@ -1,38 +1,15 @@
 // Answers and markings in words.
+use shown::refusal;
+use shown::say;
+use shown::tokens;
 use terms::Check;
-use terms::Place;
-use terms::Refusal;
 use walk::Begun;
 use walk::Marking;
 use walk::Moved;
 
-const STDOUT: i32 = 1;
-
-fn say(words: &[u8]) {
-    io::write_all(STDOUT, words);
-}
-
-fn number(n: u64) {
-    say(b" ");
-    io::print_decimal(STDOUT, n);
-}
-
-fn number16(w: u16) {
-    number(w as u64);
-}
-
-fn refusal(r: Refusal) {
-    say(b"refused");
-    number(r.number as u64);
-    say(b" at");
-    number(r.value() as u64);
-}
-
 fn marking(m: Marking) {
-    let tokens = m.tokens;
-    for p in 0..Place::MOST {
-        number16(tokens[p]);
-    }
+    let row = m.tokens;
+    tokens(row);
 }
 
 // A refused beginning has no marking to show.

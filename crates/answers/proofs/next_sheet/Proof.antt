@@ -15,14 +15,14 @@ read-full-requires c κs = search needs
 returns : tie.Need-returns
 returns c = search needs
 
-array-read-length-of : tie.Need-array-read-length-of
-array-read-length-of c = search needs
+slice-aggregate-two-bytes : tie.Need-slice-aggregate-two-bytes
+slice-aggregate-two-bytes c = search needs
 
-array-read-length-of-2 : tie.Need-array-read-length-of-2
-array-read-length-of-2 c = search needs
+two-bytes-requires : tie.Need-two-bytes-requires
+two-bytes-requires c κs = search needs
 
-length-of-requires : tie.Need-length-of-requires
-length-of-requires c κs = search needs
+cast-length : tie.Need-cast-length
+cast-length c = search needs
 
 returns-2 : tie.Need-returns-2
 returns-2 c = search needs
@@ -32,8 +32,8 @@ slice-relend-prefix-answer-sheet c = search needs
 
 slice-aggregate-answer-sheet : tie.Need-slice-aggregate-answer-sheet
 slice-aggregate-answer-sheet c =
-    let a = c .before .before .before .before .before .before .before .before .args in
-    sym (length-take-le (c .before .before .length-of .result) (a .room .now) (omega arith))
+    let a = c .before .before .before .before .before .before .before .before .before .args in
+    sym (length-take-le (c .before .before .two-bytes .result) (a .room .now) (omega arith))
 
 array-read-answer-sheet : tie.Need-array-read-answer-sheet
 array-read-answer-sheet c = search needs
@@ -54,9 +54,9 @@ next-sheet-spec =
     slice-aggregate-read-full
     read-full-requires
     returns
-    array-read-length-of
-    array-read-length-of-2
-    length-of-requires
+    slice-aggregate-two-bytes
+    two-bytes-requires
+    cast-length
     returns-2
     slice-relend-prefix-answer-sheet
     slice-aggregate-answer-sheet

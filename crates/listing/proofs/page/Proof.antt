@@ -8,7 +8,7 @@ use Rattle.format.specs.Contents.{Contents}
 use Rattle.format.specs.Reading.{reading}
 use Rattle.terms.specs.declared.Check.the-variants.{Fine}
 use Rattle.listing.specs.Listed.{IsPage, Starts, roomCheck}
-use Rattle.listing.proofs.Paged.{all-fit, page-there, refused-there}
+use Rattle.listing.proofs.Paged.{all-fit, line-there, page-there, refused-there}
 use borrow.Author.Needs.{needs}
 use Rattle.listing.proofs.page.Statement.{statement}
 use Rattle.listing.proofs.page.Tie as tie
@@ -72,7 +72,8 @@ returns-2 c =
     let q = c .before .before .before .before .before .r in
     let p = refused-there m l (a .text .now) mid (f .result) (enough s) y (f .ensures .0) (q .given .0 .0) (q .given .1) in
     let new = w .last .1 .0 in
-    (subst (λ (z : Read Contents). IsPage z (take (w .result) new)) (sym (p .0)) (w .ensures .0), (subst (λ (old : List ℕ). Starts (w .result) old new) (p .1) (w .ensures .1), f .ensures .1))
+    let there = line-there (q .given .0 .0) mid new (w .result) (w .ensures) in
+    (subst (λ (z : Read Contents). IsPage z (take (w .result) new)) (sym (p .0)) (there .0), (subst (λ (old : List ℕ). Starts (w .result) old new) (p .1) (there .1), f .ensures .1))
 
 pub page-spec : {M : Type 1} → statement M
 page-spec =

@@ -1,11 +1,9 @@
 -- `refusal_text` meets its contract: the line stands at the start, and what stood behind it still does.
-use mathlib.Core.Path.{refl, ap, subst}
-use Prim.Native.Nat.{ℕ}
+use mathlib.Core.Path.{refl, ap}
 use lib.ListN.{length}
 use borrow.Author.Tests.{lt-leb, le-leb}
-use Rattle.text.specs.Bytes.{Wrote}
 use Rattle.text.proofs.Writing.{length-written, whole}
-use Rattle.lines.specs.Lines.{refusedLine, refusalLine}
+use Rattle.lines.specs.Lines.{refusalLine}
 use Rattle.listing.specs.declared.Listed.the-variants as listed
 use borrow.Author.Needs.{needs}
 use Rattle.listing.proofs.refusal_text.Statement.{statement}
@@ -17,21 +15,18 @@ small-text-requires c κs = search needs
 returns : tie.Need-returns
 returns c = rw (lt-leb 4096 (length (c .before .before .before .args .text .now)) (c .before .if1 .taken)) (ap listed.Refused (c .small-text .ensures), refl)
 
-value-requires : tie.Need-value-requires
-value-requires c κs = search needs
-
-refusal-line-requires : tie.Need-refusal-line-requires
-refusal-line-requires c κs = search needs
+refusal-page-requires : tie.Need-refusal-page-requires
+refusal-page-requires c κs = search needs
 
 same-length : tie.Need-same-length
 same-length c = search needs
 
 returns-2 : tie.Need-returns-2
 returns-2 c =
-    let a = c .before .before .before .before .before .before .before .args in
-    let w = c .before .before .refusal-line in
-    let e = subst (λ (d : ℕ). Wrote (refusedLine (a .r .number) d) (a .text .now) 0 (w .last .0) (w .result)) (c .before .before .before .before .value .ensures) (w .ensures) in
-    rw (le-leb 4096 (length (a .text .now)) (c .before .before .before .before .before .if1 .left)) (ap listed.Written (length-written (refusalLine (a .r)) (a .text .now) (w .last .0) (w .result) e), whole (refusalLine (a .r)) (a .text .now) (w .last .0) (w .result) e)
+    let a = c .before .before .before .before .before .before .args in
+    let w = c .before .before .refusal-page in
+    let new = w .last .1 .0 in
+    rw (le-leb 4096 (length (a .text .now)) (c .before .before .before .before .if1 .left)) (ap listed.Written (length-written (refusalLine (a .r)) (a .text .now) new (w .result) (w .ensures)), whole (refusalLine (a .r)) (a .text .now) new (w .result) (w .ensures))
 
 pub refusal-text-spec : {M : Type 1} → statement M
 refusal-text-spec =
@@ -39,7 +34,6 @@ refusal-text-spec =
     (tie.spec
     small-text-requires
     returns
-    value-requires
-    refusal-line-requires
+    refusal-page-requires
     same-length
     returns-2)

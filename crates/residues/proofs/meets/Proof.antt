@@ -71,14 +71,14 @@ inside c = omega (arith, c .before .loop .inv .3, mod-lt (c .before .loop .v) (S
 known : (c : In) → (natAbs (S c .args .hi) ≡ P (S c .args .hi)) × (N (S c .args .hi) ≡ 0) × (P (S c .args .lo) ≤ c .before .loop .v) × (c .before .loop .r ≡ c .before .loop .v % S c .args .least)
 known c = let i = rw (toZ-ofZ (S c .fits .hi), toZ-ofZ (S c .fits .lo)) at (c .before .loop .inv) in (i .0, i .1, i .2, i .3)
 
-mul-wide : tie.Need-mul-wide Inv-loop μ-loop
-mul-wide c = record { fits = omega (arith, inside c) }
+mul-wide16 : tie.Need-mul-wide16 Inv-loop μ-loop
+mul-wide16 c = record { fits = omega (arith, inside c) }
 
-shared-slice-read-wide : tie.Need-shared-slice-read-wide Inv-loop μ-loop
-shared-slice-read-wide c = omega (arith, inside (c .before), S (c .before) .pre)
+shared-slice-read-wide16 : tie.Need-shared-slice-read-wide16 Inv-loop μ-loop
+shared-slice-read-wide16 c = omega (arith, inside (c .before), S (c .before) .pre)
 
-wide-requires : tie.Need-wide-requires Inv-loop μ-loop
-wide-requires c κs = search needs
+wide16-requires : tie.Need-wide16-requires Inv-loop μ-loop
+wide16-requires c κs = search needs
 
 returns-2 : tie.Need-returns-2 Inv-loop μ-loop
 returns-2 c =
@@ -88,7 +88,7 @@ returns-2 c =
     let i = known b in
     let low : s .args .lo ≤ℤ pos (l .v) = le-out (omega (arith, i .2)) in
     let high : pos (l .v) ≤ℤ s .args .hi = le-out (omega (arith, i .0, i .1, b .loop-test .taken, ap natAbs (toZ-ofZ (s .fits .hi)))) in
-    let have : getD (s .args .table .now) (l .v % s .args .least) 0 ≤ l .v = omega (arith, c .before .wide .ensures, ap (λ (j : ℕ). getD (s .args .table .now) j 0) (i .3), c .if2 .taken) in
+    let have : getD (s .args .table .now) (l .v % s .args .least) 0 ≤ l .v = omega (arith, c .before .wide16 .ensures, ap (λ (j : ℕ). getD (s .args .table .now) j 0) (i .3), c .if2 .taken) in
     λ ss t h. (l .v, t .exactly (l .v) (omega (arith, le-in high, le-in h)) .1 have, low, high)
 
 add-v : tie.Need-add-v Inv-loop μ-loop
@@ -106,7 +106,7 @@ loop-again c =
     let s = S b in
     let l = b .before .loop in
     let i = l .inv in
-    let miss : getD (s .args .table .now) (l .v % s .args .least) 0 ≤ l .v → ⊥ = λ h. omega (arith, c .before .before .wide .ensures, ap (λ (j : ℕ). getD (s .args .table .now) j 0) (i .3), c .before .if2 .left) in (
+    let miss : getD (s .args .table .now) (l .v % s .args .least) 0 ≤ l .v → ⊥ = λ h. omega (arith, c .before .before .wide16 .ensures, ap (λ (j : ℕ). getD (s .args .table .now) j 0) (i .3), c .before .if2 .left) in (
       i .0,
       i .1,
       omega (arith, i .2),
@@ -131,9 +131,9 @@ meets-spec =
     raised-requires
     rem-r
     loop-holds
-    mul-wide
-    shared-slice-read-wide
-    wide-requires
+    mul-wide16
+    shared-slice-read-wide16
+    wide16-requires
     returns-2
     add-v
     after-requires

@@ -78,7 +78,7 @@ module _ (c : tie.After-term Inv-loop μ-loop) where
   product =
       c .term .ensures .0
       ∙ ap (λ (z : ℤ). z *ℤ pos (c .before .wide .result)) (toZ-ofZ k-fits ∙ sym (getD-take n k at (pos 0) (omega arith)))
-      ∙ ap (λ (w : ℕ). getD ks at (pos 0) *ℤ pos w) (c .before .wide .ensures ∙ sym (byte-in s from n at (omega arith)))
+      ∙ ap (λ (w : ℕ). getD ks at (pos 0) *ℤ pos w) (c .before .wide .ensures .0 ∙ sym (byte-in s from n at (omega arith)))
 
   step : value (drop at ks) (drop at ms) ≡ (c .term .result +ℤ value (drop (at + 1) ks) (drop (at + 1) ms))
   step =

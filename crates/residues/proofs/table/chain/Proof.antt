@@ -16,14 +16,14 @@ Inv-loop table₀ k s start a v₀ next₀ table v next =
 abbrev μ-loop : tie.MeasureT-loop
 μ-loop table₀ k s start a v₀ next₀ table v next = 65536 - v
 
-mul-wide : tie.Need-mul-wide Inv-loop μ-loop
-mul-wide c = search needs
+mul-wide16 : tie.Need-mul-wide16 Inv-loop μ-loop
+mul-wide16 c = search needs
 
-slice-read-wide : tie.Need-slice-read-wide Inv-loop μ-loop
-slice-read-wide c = search needs
+slice-read-wide16 : tie.Need-slice-read-wide16 Inv-loop μ-loop
+slice-read-wide16 c = search needs
 
-wide-requires : tie.Need-wide-requires Inv-loop μ-loop
-wide-requires c κs = search needs
+wide16-requires : tie.Need-wide16-requires Inv-loop μ-loop
+wide16-requires c κs = search needs
 
 add-v : tie.Need-add-v Inv-loop μ-loop
 add-v c = omega (arith, c .before .slice-known2 .given (c .before .before .before .args .start))
@@ -36,7 +36,7 @@ loop-holds c =
     let s = c .before .before .before .before in
     let g = s .args in
     let a = length (g .table .now) in
-    begun a (g .k) (g .start) (g .table .now) _ _ refl (s .pre .1 .0 .1) (ap (λ (w : ℕ). w + g .k) (c .before .wide .ensures))
+    begun a (g .k) (g .start) (g .table .now) _ _ refl (s .pre .1 .0 .1) (ap (λ (w : ℕ). w + g .k) (c .before .wide16 .ensures))
     (c .after .ensures ∙ ap (λ (i : ℕ). (g .start + i) % a) (s .pre .1 .0 .0) ∙ add-mod-mod (g .start) (g .k) a) (s .pre .1 .1)
 
 -- at the loop's test
@@ -58,17 +58,17 @@ lowers c w e l = omega arith
 narrow : (c : tie.After-slice-known3 Inv-loop μ-loop) → getD (c .before .loop .table) (c .before .loop .next) 0 < 65536
 narrow c = omega (arith, c .slice-known3 .given (c .before .loop .next))
 
-mul-wide-2 : tie.Need-mul-wide-2 Inv-loop μ-loop
-mul-wide-2 c = record { fits = omega (arith, there c, S c .pre .0 .short) }
+mul-wide16-2 : tie.Need-mul-wide16-2 Inv-loop μ-loop
+mul-wide16-2 c = record { fits = omega (arith, there c, S c .pre .0 .short) }
 
-slice-read-wide-2 : tie.Need-slice-read-wide-2 Inv-loop μ-loop
-slice-read-wide-2 c = omega (arith, there (c .before), c .before .loop .inv .long)
+slice-read-wide16-2 : tie.Need-slice-read-wide16-2 Inv-loop μ-loop
+slice-read-wide16-2 c = omega (arith, there (c .before), c .before .loop .inv .long)
 
-wide-requires-2 : tie.Need-wide-requires-2 Inv-loop μ-loop
-wide-requires-2 c κs = search needs
+wide16-requires-2 : tie.Need-wide16-requires-2 Inv-loop μ-loop
+wide16-requires-2 c κs = search needs
 
 cast-table : tie.Need-cast-table Inv-loop μ-loop
-cast-table c = let b = c .before .before .before in record { fits = omega (arith, lowers b (c .before .wide2 .result) (c .before .wide2 .ensures) (c .if1 .taken), narrow (c .before .before)) }
+cast-table c = let b = c .before .before .before in record { fits = omega (arith, lowers b (c .before .wide162 .result) (c .before .wide162 .ensures) (c .if1 .taken), narrow (c .before .before)) }
 
 mul-table : tie.Need-mul-table Inv-loop μ-loop
 mul-table c = record { fits = omega (arith, there (c .before .before .before), S (c .before .before .before) .pre .0 .short) }
@@ -77,7 +77,7 @@ slice-write-table : tie.Need-slice-write-table Inv-loop μ-loop
 slice-write-table c = omega (arith, there (c .before .before .before), c .before .before .before .loop .inv .long)
 
 add-v-2 : tie.Need-add-v-2 Inv-loop μ-loop
-add-v-2 c = omega (arith, S (c .before .before .before) .pre .0 .small, lowers (c .before .before .before) (c .before .wide2 .result) (c .before .wide2 .ensures) (c .if1 .taken), narrow (c .before .before))
+add-v-2 c = omega (arith, S (c .before .before .before) .pre .0 .small, lowers (c .before .before .before) (c .before .wide162 .result) (c .before .wide162 .ensures) (c .if1 .taken), narrow (c .before .before))
 
 after-requires-2 : tie.Need-after-requires-2 Inv-loop μ-loop
 after-requires-2 c κs =
@@ -89,7 +89,7 @@ after-requires-2 c κs =
 loop-less : tie.Need-loop-less Inv-loop μ-loop
 loop-less c =
     let b = c .before .before .before .before in
-    omega (arith, S b .pre .0 .some, lowers b (c .before .before .wide2 .result) (c .before .before .wide2 .ensures) (c .before .if1 .taken), narrow (c .before .before .before))
+    omega (arith, S b .pre .0 .some, lowers b (c .before .before .wide162 .result) (c .before .before .wide162 .ensures) (c .before .if1 .taken), narrow (c .before .before .before))
 
 loop-again : tie.Need-loop-again Inv-loop μ-loop
 loop-again c =
@@ -98,7 +98,7 @@ loop-again c =
     let g = s .args in
     let a = length (g .table .now) in
     goes-on a (g .k) (g .start) (g .table .now) (b .loop .table) (b .loop .v) (b .loop .next) (s .pre .0 .long) (b .loop .inv)
-    (lowers b (c .before .before .wide2 .result) (c .before .before .wide2 .ensures) (c .before .if1 .taken)) _ _ refl
+    (lowers b (c .before .before .wide162 .result) (c .before .before .wide162 .ensures) (c .before .if1 .taken)) _ _ refl
     (c .after2 .ensures ∙ ap (λ (i : ℕ). (b .loop .next + i) % a) (s .pre .1 .0 .0) ∙ add-mod-mod (b .loop .next) (g .k) a)
 
 same-length : tie.Need-same-length Inv-loop μ-loop
@@ -109,7 +109,7 @@ returns c =
     let b = c .before .before .before in
     let s = S b in
     let g = s .args in
-    stops (length (g .table .now)) (g .k) (g .start) (g .table .now) (b .loop .table) (b .loop .v) (b .loop .next) (s .pre .0 .long) (b .loop .inv) (omega (arith, c .if1 .left, c .before .wide2 .ensures))
+    stops (length (g .table .now)) (g .k) (g .start) (g .table .now) (b .loop .table) (b .loop .v) (b .loop .next) (s .pre .0 .long) (b .loop .inv) (omega (arith, c .if1 .left, c .before .wide162 .ensures))
 
 pub chain-spec : {M : Type 1} → statement M
 chain-spec =
@@ -117,15 +117,15 @@ chain-spec =
     (tie.spec
     Inv-loop
     μ-loop
-    mul-wide
-    slice-read-wide
-    wide-requires
+    mul-wide16
+    slice-read-wide16
+    wide16-requires
     add-v
     after-requires
     loop-holds
-    mul-wide-2
-    slice-read-wide-2
-    wide-requires-2
+    mul-wide16-2
+    slice-read-wide16-2
+    wide16-requires-2
     cast-table
     mul-table
     slice-write-table

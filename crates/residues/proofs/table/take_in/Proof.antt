@@ -11,17 +11,17 @@ use Rattle.residues.proofs.Grown.{sound-kept, extended, closed-already}
 use Rattle.residues.proofs.table.take_in.Statement.{statement}
 use Rattle.residues.proofs.table.take_in.Tie as tie
 
-rem-wide : tie.Need-rem-wide
-rem-wide c = search needs
+rem-wide16 : tie.Need-rem-wide16
+rem-wide16 c = search needs
 
-mul-wide : tie.Need-mul-wide
-mul-wide c = let s = c .before in record { fits = omega (arith, mod-lt (s .args .k) (s .pre .0), s .pre .1) }
+mul-wide16 : tie.Need-mul-wide16
+mul-wide16 c = let s = c .before in record { fits = omega (arith, mod-lt (s .args .k) (s .pre .0), s .pre .1) }
 
-slice-read-wide : tie.Need-slice-read-wide
-slice-read-wide c = let s = c .before .before in mod-lt (s .args .k) (s .pre .0)
+slice-read-wide16 : tie.Need-slice-read-wide16
+slice-read-wide16 c = let s = c .before .before in mod-lt (s .args .k) (s .pre .0)
 
-wide-requires : tie.Need-wide-requires
-wide-requires c κs = search needs
+wide16-requires : tie.Need-wide16-requires
+wide16-requires c κs = search needs
 
 returns : tie.Need-returns
 returns c =
@@ -29,7 +29,7 @@ returns c =
     let a = length (s .args .table .now) in
     let k = s .args .k in
     let T = s .args .table .now in
-    λ ss t. extended a k ss T T (s .pre .0) t (λ r. omega arith) (closed-already a k ss T (s .pre .0) (s .pre .2) t (omega (arith, c .before .wide .ensures, c .if1 .taken))) (sound-kept a k ss T (t .sound))
+    λ ss t. extended a k ss T T (s .pre .0) t (λ r. omega arith) (closed-already a k ss T (s .pre .0) (s .pre .2) t (omega (arith, c .before .wide16 .ensures, c .if1 .taken))) (sound-kept a k ss T (t .sound))
 
 -- 0 is reached
 not-zero : (k : ℕ) (T : List ℕ) → getD T 0 0 ≡ 0 → k < getD T (k % length T) 0 → Dec (0 < k) → 0 < k
@@ -41,7 +41,7 @@ not-zero k T first l (no n) =
 sweep-requires : tie.Need-sweep-requires
 sweep-requires c κs =
     let s = c .before .before .before .before .before in
-    record { some = not-zero (s .args .k) (s .args .table .now) (s .pre .3) (omega (arith, c .before .before .wide .ensures, c .before .if1 .left)) (decLt 0 (s .args .k)); small = s .pre .2; long = s .pre .0; short = s .pre .1 }
+    record { some = not-zero (s .args .k) (s .args .table .now) (s .pre .3) (omega (arith, c .before .before .wide16 .ensures, c .before .if1 .left)) (decLt 0 (s .args .k)); small = s .pre .2; long = s .pre .0; short = s .pre .1 }
 
 same-length : tie.Need-same-length
 same-length c = c .before .before .sweep .kept .0
@@ -59,10 +59,10 @@ pub take-in-spec : {M : Type 1} → statement M
 take-in-spec =
     tie.close
     (tie.spec
-    rem-wide
-    mul-wide
-    slice-read-wide
-    wide-requires
+    rem-wide16
+    mul-wide16
+    slice-read-wide16
+    wide16-requires
     returns
     sweep-requires
     same-length

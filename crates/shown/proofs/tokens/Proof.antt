@@ -1,8 +1,8 @@
--- `show::tokens` is safe and ends: it counts to 16.
+-- `tokens` is safe and ends: it counts to 16.
 use Prim.Native.Nat.{_-_, _≤_}
 use borrow.Author.Needs.{needs}
-use Rattle.answers.proofs.show.tokens.Statement.{statement}
-use Rattle.answers.proofs.show.tokens.Tie as tie
+use Rattle.shown.proofs.tokens.Statement.{statement}
+use Rattle.shown.proofs.tokens.Tie as tie
 
 abbrev Inv-loop : tie.InvT-loop
 Inv-loop row p₀ p = p ≤ 16
