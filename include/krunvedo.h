@@ -25,6 +25,7 @@ extern "C" {
 #define KRUNVEDO_PLACES 16 /* numbers in a row */
 #define KRUNVEDO_AREA 20000 /* entries that each work area must have */
 #define KRUNVEDO_TEXT 4096 /* bytes that an area for a text must have */
+#define KRUNVEDO_FIRINGS 64 /* transitions that a list may have */
 
 /* Bytes that are only read. */
 typedef struct {
@@ -44,7 +45,8 @@ typedef struct {
   size_t length;
 } krunvedo_queue;
 
-/* Document 01, "Numbers that say no". Where nothing is refused both are 0. Where something is, all else in the answer is 0. */
+/* Document 01, "Numbers that say no". Where nothing is refused both are 0. Where something is, all else in the answer is 0, but
+ * for a list's position. */
 typedef struct {
   uint8_t number;
   size_t detail;
@@ -171,6 +173,23 @@ krunvedo_written krunvedo_refusal_text(uint8_t number, size_t detail, krunvedo_t
  * nothing else touches during the call. */
 krunvedo_tokens krunvedo_begin(krunvedo_bytes sheet);
 krunvedo_refused krunvedo_step(uint16_t *tokens, krunvedo_bytes sheet, size_t t);
+
+/* Transition numbers that are only read. */
+typedef struct {
+  const size_t *data;
+  size_t length;
+} krunvedo_list;
+
+/* The position of the step that is refused, counted from 1; 0 where no step is. */
+typedef struct {
+  krunvedo_refused refusal;
+  size_t position;
+} krunvedo_fired;
+
+/* Fires the transitions of a list one after the other, as single steps would. Where one is refused, the refusal is that step's own, and
+ * the tokens are those before the call. After the sheet's own refusals comes 17, with its length, for a list longer than 64; no step is
+ * tried then. An empty list tries none, and changes nothing. */
+krunvedo_fired krunvedo_fire_list(uint16_t *tokens, krunvedo_bytes sheet, krunvedo_list list);
 
 #ifdef __cplusplus
 }

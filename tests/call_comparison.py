@@ -36,7 +36,7 @@ from tables import Table, column_total, shown
 BATCHES = 16
 
 # Of each column how many there must be. "divided" is a claim that its reduced form divides by more than 1, "below zero" one of
-# those with both a coefficient and the constant below zero.
+# those with both a coefficient and the constant below zero, and "list" a fine list that isn't empty.
 LEAST = {
     "sheets": 4_000,
     "calls": 300_000,
@@ -52,6 +52,7 @@ LEAST = {
     "pair kept": 6_000,
     "pair broken": 2_000,
     "step": 6_000,
+    "list": 1_500,
 }
 
 
@@ -118,6 +119,8 @@ def columns_of_lines(lines: list[Line]) -> list[str]:
             columns.append(VERDICTS[number] if call.startswith("verdict") else ["", "pair kept", "pair broken"][number])
         elif call.startswith("step ") and answer.startswith("refusal 0"):
             columns.append("step")
+        elif call.startswith("fire_list ") and call != "fire_list 0" and answer.startswith("refusal 0"):
+            columns.append("list")
     return columns
 
 

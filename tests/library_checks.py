@@ -68,7 +68,7 @@ def built(checks: Checks, line: list) -> bool:
 
 def failed_tests(output: str) -> str:
     """Nothing where Rust's own harness says that all tests passed, else all that it printed."""
-    return "" if "test result: ok. 7 passed; 0 failed" in output else output
+    return "" if "test result: ok. 8 passed; 0 failed" in output else output
 
 
 def expected_lines() -> Iterator[str]:
@@ -87,6 +87,10 @@ def expected_lines() -> Iterator[str]:
     yield f"step 1: refusal 0 at 0, tokens {row(0, 2, last=7)}"
     yield f"step 1: refusal 15 at 1, tokens {row(0, 2, last=7)}"
     yield f"step 2: refusal 12 at 2, tokens {row(0, 2, last=7)}"
+    yield f"fire_list 0: refusal 0 at 0, position 0, tokens {row(2)}"
+    yield f"fire_list 3: refusal 15 at 1, position 3, tokens {row(2)}"
+    yield f"fire_list 2: refusal 0 at 0, position 0, tokens {row(0, 2)}"
+    yield f"fire_list 65: refusal 17 at 65, position 0, tokens {row(0, 2)}"
 
 
 def claim_lines() -> Iterator[str]:

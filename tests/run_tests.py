@@ -4,7 +4,7 @@
 
 The programs and the library must be built. Most sheets go to `answers` and `listings`, which take many in one run:
 where an emulator runs the programs, a start takes far longer than a sheet. The pairs go to `questions`, the walks to
-`walks`. Every call of the library is made from C.
+`walks`. Every call of the library is made from C, and the lists are fired from there.
 """
 
 import sys
@@ -23,6 +23,7 @@ from example_checks import check_examples
 from files_checks import check_files
 from listing_comparison import compare_listings
 from library_checks import check_library
+from list_comparison import compare_lists
 from pair_tests import compare_pairs
 from promises_checks import check_promises
 from programs import BATCH_TIME_LIMIT, WORKERS, batches, framed, run
@@ -122,6 +123,7 @@ def main() -> int:
         compare_pairs,
         compare_listings,
         compare_walks,
+        compare_lists,
     )
 
 

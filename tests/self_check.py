@@ -10,6 +10,7 @@ from io import StringIO
 from unittest.mock import patch
 
 import call_comparison
+import list_comparison
 import listing_comparison
 import pair_comparison
 import walk_comparison
@@ -23,15 +24,18 @@ from second.counts import first_line
 from second.sheet import read, write
 from wrong_outputs import (
     CALLED,
+    FIRED,
     JUDGED_J,
     LISTED,
     OTHER_RIGHT_TOKENS,
     RIGHT_CALLS,
     RIGHT_LISTINGS,
+    RIGHT_LISTS,
     RIGHT_WALKS,
     WALKED,
     WRONG_CALLS,
     WRONG_LISTINGS,
+    WRONG_LISTS,
     WRONG_WALKS,
 )
 
@@ -125,6 +129,7 @@ def check_tests_can_fail() -> None:
         other = RIGHT_LISTINGS.replace("broken 2 2 1\n", f"broken 2 {tokens}\n")
         demand(f"{tokens} in a listing passes too", other != RIGHT_LISTINGS and not listing_failures(other))
     check_reported(walk_failures, RIGHT_WALKS, WRONG_WALKS)
+    check_reported(list_failures, RIGHT_LISTS, WRONG_LISTS)
     check_reported(call_failures, RIGHT_CALLS, WRONG_CALLS)
     for tokens in OTHER_RIGHT_TOKENS:
         other = RIGHT_CALLS.replace(JUDGED_J, JUDGED_J.replace("3 1", tokens))
@@ -150,6 +155,10 @@ def failures_found_again() -> list[Failure]:
 
 def walk_failures(output: str) -> list[Failure]:
     return walk_comparison.differences([walk for walk, _ in WALKED], output)
+
+
+def list_failures(output: str) -> list[Failure]:
+    return list_comparison.differences([made for made, _ in FIRED], output)
 
 
 def call_failures(output: str) -> list[Failure]:

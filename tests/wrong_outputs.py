@@ -1,5 +1,6 @@
-"""Right outputs of `listings`, `walks` and tests/c/every_call.c, and wrong ones that must be reported."""
+"""Right outputs of `listings`, `walks`, tests/c/lists.c and tests/c/every_call.c, and wrong ones that must be reported."""
 
+from lists_by_hand import LISTS
 from make_listings import Made
 from named_cases import FIRST, HEAD
 from pair_cases import T_OF_004
@@ -108,6 +109,34 @@ WRONG_WALKS = [
     ("an end by a signal after a walk", HEAD, LAST, LAST + "(ended with status -11)"),
 ]
 
+# Lists on 01's sheet, on the full place, and on the sheet without a claim.
+KINDS = ["an empty list", "two steps", "the third refused", "64 steps", "65 steps", "refused sheet, 65 steps"]
+FIRED = [(made, line) for made, line in LISTS if made.kind in KINDS]
+RIGHT_LISTS = "".join(f"{line}\n.\n" for _, line in FIRED)
+
+THIRD = f"refusal 15 at 1, position 3, tokens 2 0{NONE}"
+TOO_LONG = "refusal 17 at 65, position 0, tokens 65470"
+LAST_LIST = f"{FIRED[-1][1]}\n.\n"
+
+WRONG_LISTS = [
+    ("an empty list that moves", FIRST, f"position 0, tokens 2 0{NONE}", f"position 0, tokens 1 1{NONE}"),
+    ("a list that moves once", FIRST, f"position 0, tokens 0 2{NONE}", f"position 0, tokens 1 1{NONE}"),
+    ("a refused list that stays where it stopped", FIRST, THIRD, THIRD.replace("tokens 2 0", "tokens 0 2")),
+    ("a position from 0 on", FIRST, THIRD, THIRD.replace("position 3", "position 2")),
+    ("a refused list without its position", FIRST, THIRD, THIRD.replace("position 3", "position 0")),
+    ("15 with another place in a list", FIRST, THIRD, THIRD.replace("15 at 1", "15 at 2")),
+    ("a refused list told as fine", FIRST, THIRD, THIRD.replace("15 at 1, position 3", "0 at 0, position 0")),
+    ("a list of 64 refused", FULL, "refusal 0 at 0, position 0, tokens 65535", "refusal 17 at 64, position 0, tokens 65471"),
+    ("a list of 65 fired", FULL, TOO_LONG, "refusal 0 at 0, position 0, tokens 65535"),
+    ("17 with the most there may be", FULL, TOO_LONG, TOO_LONG.replace("at 65", "at 64")),
+    ("17 with a position", FULL, TOO_LONG, TOO_LONG.replace("position 0", "position 65")),
+    ("17 before the sheet's refusal", HEAD, "refusal 9 at 23", "refusal 17 at 65"),
+    ("a missing list", HEAD, LAST_LIST, ""),
+    ("a list too many", HEAD, LAST_LIST, 2 * LAST_LIST),
+    ("a missing dot after a list", HEAD, LAST_LIST, LAST_LIST[:-2]),
+    ("an end by a signal after a list", HEAD, LAST_LIST, LAST_LIST + "(ended with status -11)"),
+]
+
 # Every call on the sheets whose listings stand above, with the bad markings that the second program happens to find.
 CALLED = [call_lines(data) for _, data in LISTED]
 RIGHT_CALLS = "".join(map(right_text, CALLED))
@@ -119,6 +148,7 @@ JUDGED_J = f"verdict 1: refusal 0 at 0, answer 3, transition 2, tokens 3 1{NONE}
 ASKED_J = f"pair 2: refusal 0 at 0, answer 2, tokens 3 1{NONE}, by transition 2"
 RECORD_2 = "claim_record 2: refusal 0 at 0, from 29, length 6\n"
 STEP_1 = "step 1: refusal 0 at 0, tokens"
+LIST_3 = "fire_list 3: refusal 12 at 2, position 2, tokens 2 0"
 LAST_CALLS = right_text(CALLED[-1])
 
 WRONG_CALLS = [
@@ -162,6 +192,8 @@ WRONG_CALLS = [
     ("a walk that begins elsewhere", FIRST, "begin 0: refusal 0 at 0, tokens 2 0", "begin 0: refusal 0 at 0, tokens 0 1"),
     ("a step that clears what lies beyond", FIRST, f"{STEP_1} 1 1 9", f"{STEP_1} 1 1 0"),
     ("a refused step that moves, called", FIRST, "step 2: refusal 12 at 2, tokens 1 1", "step 2: refusal 12 at 2, tokens 0 2"),
+    ("a refused list that moves, called", FIRST, LIST_3, LIST_3.replace("tokens 2 0", "tokens 1 1")),
+    ("another position, called", FIRST, LIST_3, LIST_3.replace("position 2", "position 1")),
     ("a changed sheet", FIRST, "sheet kept", "sheet changed"),
     ("a missing line, called", FIRST, RECORD_2, ""),
     ("a line too many, called", FIRST, RECORD_2, 2 * RECORD_2),

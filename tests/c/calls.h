@@ -103,4 +103,13 @@ static void show_step(uint16_t marking[KRUNVEDO_PLACES], krunvedo_bytes sheet, s
   end_line();
 }
 
+/* What was asked for is the list's length. */
+static void show_list(uint16_t marking[KRUNVEDO_PLACES], krunvedo_bytes sheet, krunvedo_list list) {
+  krunvedo_fired fired = krunvedo_fire_list(marking, sheet, list);
+  open_line("fire_list", list.length, fired.refusal);
+  printf(", position %zu", fired.position);
+  tokens(marking);
+  end_line();
+}
+
 #endif

@@ -152,6 +152,20 @@ static void show_walks(krunvedo_bytes sheet, krunvedo_counted counts) {
     show_step(walk.tokens, sheet, asked(t, counts.transitions));
 }
 
+/* In one list the transitions asked for but 0, then those that there are, then none; from the start and from nearly full places. */
+static void show_lists(krunvedo_bytes sheet, krunvedo_counted counts) {
+  static size_t list[UINT8_MAX];
+  size_t last = last_asked(counts.transitions);
+  for (size_t t = 1; t <= last; t++) list[t - 1] = asked(t, counts.transitions);
+  krunvedo_tokens walk = krunvedo_begin(sheet);
+  for (int from = 0; from < 2; from++) {
+    show_list(walk.tokens, sheet, (krunvedo_list){list, last});
+    show_list(walk.tokens, sheet, (krunvedo_list){list, counts.transitions});
+    show_list(walk.tokens, sheet, (krunvedo_list){list, 0});
+    for (size_t p = 0; p < KRUNVEDO_PLACES; p++) walk.tokens[p] = (uint16_t)(UINT16_MAX - p);
+  }
+}
+
 static void show_all(krunvedo_bytes sheet) {
   krunvedo_counted counts = show_sheet(sheet);
   for (size_t t = 0; t <= last_asked(counts.transitions); t++) show_transition(sheet, asked(t, counts.transitions));
@@ -163,6 +177,7 @@ static void show_all(krunvedo_bytes sheet) {
   show_too_few(sheet);
   show_texts(sheet, counts.refusal);
   show_walks(sheet, counts);
+  show_lists(sheet, counts);
 }
 
 int main(void) {

@@ -55,6 +55,14 @@ static void show_walk(krunvedo_bytes sheet) {
   show_step(walk.tokens, sheet, 2);
 }
 
+static void show_lists(krunvedo_bytes sheet) {
+  static const size_t lengths[] = {0, 3, 2, KRUNVEDO_FIRINGS + 1};
+  size_t ones[KRUNVEDO_FIRINGS + 1];
+  for (size_t at = 0; at <= KRUNVEDO_FIRINGS; at++) ones[at] = 1;
+  krunvedo_tokens walk = krunvedo_begin(sheet);
+  for (int list = 0; list < 4; list++) show_list(walk.tokens, sheet, (krunvedo_list){ones, lengths[list]});
+}
+
 int main(void) {
   static uint8_t room[MOST];
   krunvedo_bytes sheet = {room, fread(room, 1, MOST, stdin)};
@@ -65,5 +73,6 @@ int main(void) {
   show_judged(sheet, 4, KRUNVEDO_AREA - 1);
   show_texts(sheet);
   show_walk(sheet);
+  show_lists(sheet);
   return 0;
 }

@@ -100,6 +100,19 @@ struct Twinned {
 }
 
 #[repr(C)]
+struct List {
+    data: *const usize,
+    length: usize,
+}
+
+#[repr(C)]
+#[derive(Debug, PartialEq)]
+struct Fired {
+    refusal: Refused,
+    position: usize,
+}
+
+#[repr(C)]
 #[derive(Debug, PartialEq)]
 struct Written {
     number: u8,
@@ -123,6 +136,7 @@ extern "C" {
     fn krunvedo_refusal_text(number: u8, detail: usize, text: Lent<u8>) -> Written;
     fn krunvedo_begin(sheet: Bytes) -> Tokens;
     fn krunvedo_step(tokens: *mut u16, sheet: Bytes, t: usize) -> Refused;
+    fn krunvedo_fire_list(tokens: *mut u16, sheet: Bytes, list: List) -> Fired;
 }
 
 fn bytes(sheet: &[u8]) -> Bytes {
@@ -172,6 +186,14 @@ fn holding(text: &[u8]) -> [u8; TEXT] {
 
 fn step(tokens: &mut [u16; PLACES], sheet: &[u8], t: usize) -> Refused {
     unsafe { krunvedo_step(tokens.as_mut_ptr(), bytes(sheet), t) }
+}
+
+fn fire_list(tokens: &mut [u16; PLACES], sheet: &[u8], list: &[usize]) -> Fired {
+    unsafe { krunvedo_fire_list(tokens.as_mut_ptr(), bytes(sheet), List { data: list.as_ptr(), length: list.len() }) }
+}
+
+fn fired(number: u8, detail: usize, position: usize) -> Fired {
+    Fired { refusal: refused(number, detail), position }
 }
 
 #[test]
@@ -262,4 +284,17 @@ fn a_walk() {
     tokens = [65_535; PLACES];
     assert_eq!(step(&mut tokens, &FIRST, 1), refused(16, 2));
     assert_eq!(tokens, [65_535; PLACES]);
+}
+
+#[test]
+fn a_list() {
+    let mut tokens = row(&[2]);
+    assert_eq!(fire_list(&mut tokens, &FIRST, &[]), fired(0, 0, 0));
+    assert_eq!(fire_list(&mut tokens, &FIRST, &[1, 1, 1]), fired(15, 1, 3));
+    assert_eq!(fire_list(&mut tokens, &FIRST, &[1, usize::MAX]), fired(12, usize::MAX, 2));
+    assert_eq!(fire_list(&mut tokens, &FIRST, &[1; 65]), fired(17, 65, 0));
+    assert_eq!(fire_list(&mut tokens, &FIRST[..23], &[1; 65]), fired(9, 23, 0));
+    assert_eq!(tokens, row(&[2]));
+    assert_eq!(fire_list(&mut tokens, &FIRST, &[1, 1]), fired(0, 0, 0));
+    assert_eq!(tokens, row(&[0, 2]));
 }

@@ -15,7 +15,7 @@ from second.sheet import Refusal, Sheet, claim_record, outside, read, records
 from second.sums import breaks
 from second.twins import first_twins, reduced
 from second.verdicts import BY_SUMS, verdict
-from second.walk import begun, stepped
+from second.walk import begun, fired, stepped
 
 FINE = Refusal(0, 0)
 VERDICTS = ["refused", "start-outside", "target-inside", "broken", "proof"]
@@ -25,6 +25,8 @@ PAIRS = 24  # asked about on a sheet, or a few more
 
 ENOUGH = [(AREA_SIZE, AREA_SIZE), (AREA_SIZE + 8, AREA_SIZE + 1)]
 TOO_FEW = [(AREA_SIZE - 1, AREA_SIZE), (AREA_SIZE, AREA_SIZE - 1), (0, 0)]
+
+NEARLY_FULL = tuple(MOST_TOKENS - place for place in range(MOST_PLACES))
 
 Sizes = tuple[int, int]
 
@@ -63,6 +65,7 @@ def call_lines(data: bytes) -> list[Line]:
         *too_few_lines(asked),
         *text_lines(asked),
         *map(Line, walk_lines(asked, transitions)),
+        *map(Line, list_lines(asked, transitions[1:])),
         Line("sheet kept"),
         Line("."),
     ]
@@ -192,9 +195,17 @@ def walk_lines(asked: Asked, transitions: list[int]) -> Iterator[str]:
     yield f"begin 0: {refusal(asked.refused)}, tokens {row(start)}"
     n = asked.sheet.n
     beyond = tuple(7 + place for place in range(n, MOST_PLACES))
-    for marking in [start[:n] + beyond, tuple(MOST_TOKENS - place for place in range(MOST_PLACES))]:
+    for marking in [start[:n] + beyond, NEARLY_FULL]:
         for t in transitions:
             after = stepped(asked.answer, marking, t)
             refused = after if isinstance(after, Refusal) else None
             marking = marking if refused else after
             yield f"step {t}: {refusal(refused)}, tokens {row(marking)}"
+
+
+def list_lines(asked: Asked, transitions: list[int]) -> Iterator[str]:
+    """In one list the transitions but 0, then those that there are, then none; from the start and from nearly full places."""
+    for marking in [begun(asked.sheet), NEARLY_FULL]:
+        for length in [len(transitions), asked.sheet.T, 0]:
+            refused, position, marking = fired(asked.answer, marking, transitions[:length])
+            yield f"fire_list {length}: {refusal(refused)}, position {position}, tokens {row(marking)}"

@@ -1,6 +1,9 @@
-"""Walks a net one firing at a time. Quoted sentences are 01's."""
+"""Walks a net one firing at a time, or by a list. Quoted sentences are 01's, and of a list 02's."""
 
-from second.limits import MOST_PLACES, MOST_TOKENS
+from collections.abc import Sequence
+from typing import NamedTuple
+
+from second.limits import MOST_FIRINGS, MOST_PLACES, MOST_TOKENS
 from second.pairs import Vector
 from second.sheet import Refusal, Sheet, outside
 
@@ -28,3 +31,24 @@ def stepped(sheet: Sheet | Refusal, marking: Vector, number: int) -> Vector | Re
     if full:
         return Refusal(16, full[0])
     return (*after, *marking[sheet.n :])
+
+
+class Fired(NamedTuple):
+    refused: Refusal | None
+    position: int  # of the step that is refused, "counted from 1 (0 if no step was tried)"; 0 where none is refused
+    marking: Vector  # after the call
+
+
+def fired(sheet: Sheet | Refusal, marking: Vector, numbers: Sequence[int]) -> Fired:
+    """ "Moves the marking as single steps would"; 17 comes "after all sheet checks and before any step"."""
+    if isinstance(sheet, Refusal):
+        return Fired(sheet, 0, marking)
+    if len(numbers) > MOST_FIRINGS:
+        return Fired(Refusal(17, len(numbers)), 0, marking)
+    reached = marking
+    for position, number in enumerate(numbers, start=1):
+        after = stepped(sheet, reached, number)
+        if isinstance(after, Refusal):
+            return Fired(after, position, marking)  # "the marking is that before the call"
+        reached = after
+    return Fired(None, 0, reached)

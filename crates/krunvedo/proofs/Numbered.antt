@@ -26,10 +26,15 @@ use Rattle.verdicts.specs.Judged.{verdictCheck}
 use Rattle.listing.specs.Listed.{Lists, IsListed, roomCheck, listingCheck}
 use Rattle.listing.specs.declared.Listed.{Listed}
 use Rattle.firing.specs.Firing.{lowest, isShort, lowestShort, isOver, lowestOver}
-use Rattle.walk.specs.Walk.{first, noSuchTransition, stepOf}
+use Rattle.walk.specs.Walk.{first, noSuchTransition, stepOf, walked}
 use Rattle.walk.specs.declared.Marking.{Marking}
+use Rattle.traces.specs.Traces.{numbered, listOf}
+use Rattle.traces.specs.declared.Traced.{Traced}
+use Rattle.traces.proofs.Lists.{steps}
+use Rattle.traces.proofs.Exactly.{Outcome, bad-sheet, too-long, at-step, outcome}
+use Rattle.traces.proofs.Exactly.{fine as fine-list}
 use Rattle.numbers.specs.declared.Written.{Written}
-use Rattle.numbers.specs.Numbers.{checkIs, listedIs}
+use Rattle.numbers.specs.Numbers.{checkIs, tracedIs, listedIs}
 use Rattle.krunvedo.specs.Exports.{IsListingText}
 
 data Numbered {A : Type 0} : Read A → Type 0 where
@@ -198,8 +203,8 @@ module _ (s : List ℕ) where
       let all : (x : Contents) → HasNumber (next x) = λ x. either (among (i .0) (length (x .claims))) (choose (areasFit m q) Fine (Refused smallArea)) (Refused (notAClaim i)) areas (omega arith) in
       zero-fine (verdictCheck (reading s) i m q) (passed-on (reading s) (sheet-numbered s) next all (λ y. verdictCheck y i m q) (λ x. refl) (λ r. refl))
 
-  pub step-zero : (t : Transition) (m : Marking) → checkIs (stepOf (reading s) t m .answer) .number ≡ 0 → stepOf (reading s) t m .answer ≡ Fine
-  step-zero t m =
+  step-number : (t : Transition) (m : Marking) → HasNumber (stepOf (reading s) t m .answer)
+  step-number t m =
       let next : Contents → Check = λ x. stepOf (sound x) t m .answer in
       let all : (x : Contents) → HasNumber (next x) = λ x.
       let net = x .setting .net in
@@ -211,7 +216,21 @@ module _ (s : List ℕ) where
       (either (among (t .0) (length (net .transitions))) Fine (Refused (notATransition t)) tt (omega arith))
       (first-number short (over ∷ []) (lowest-number (isShort (fired .taken) tokens) notEnabled (λ p. omega arith) 0 (net .places))
       (first-number over [] (lowest-number (isOver (nets.fire fired tokens)) tooMany (λ p. omega arith) 0 (net .places)) tt)) in
-      zero-fine (stepOf (reading s) t m .answer) (passed-on (reading s) (sheet-numbered s) next all (λ y. stepOf y t m .answer) (λ x. refl) (λ r. refl))
+      passed-on (reading s) (sheet-numbered s) next all (λ y. stepOf y t m .answer) (λ x. refl) (λ r. refl)
+
+  pub step-zero : (t : Transition) (m : Marking) → checkIs (stepOf (reading s) t m .answer) .number ≡ 0 → stepOf (reading s) t m .answer ≡ Fine
+  step-zero t m = zero-fine (stepOf (reading s) t m .answer) (step-number t m)
+
+  -- A list's refusal is the sheet's, 17, or that of one of its steps.
+  list-number : (list : List ℕ) (m : Marking) (a : Traced) → Outcome list m (reading s) a → HasNumber (a .answer)
+  list-number list m a (bad-sheet r e g) = subst (λ (a : Traced). HasNumber (a .answer)) (sym g) (sheet-number (reading s) (sheet-numbered s) r e)
+  list-number list m a (too-long x e h g) = subst (λ (a : Traced). HasNumber (a .answer)) (sym g) (omega arith)
+  list-number list m a (at-step x e h q before p g) =
+      subst (λ (a : Traced). HasNumber (a .answer)) (sym g) (subst HasNumber (p .is-refused) (step-number (numbered (p .t)) (walked (reading s) (steps before) m)))
+  list-number list m a (fine-list x e h f g) = subst (λ (a : Traced). HasNumber (a .answer)) (sym g) tt
+
+  pub list-zero : (list : List ℕ) (m : Marking) → tracedIs (listOf (reading s) list m) .refusal .number ≡ 0 → listOf (reading s) list m .answer ≡ Fine
+  list-zero list m = zero-fine (listOf (reading s) list m .answer) (list-number list m (listOf (reading s) list m) (outcome list m (reading s)))
 
   pub listing-zero : (m q : ℕ) (old new : List ℕ) (r : Written) → IsListingText (reading s) m q old new r → r .number ≡ 0 → listingCheck (reading s) m q (length old) ≡ Fine
   listing-zero m q old new r (l, is, f) e =

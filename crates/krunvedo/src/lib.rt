@@ -9,12 +9,14 @@ ghost use Rattle.pairs.specs.Pairs.{pairCheck, areaAfter};
 ghost use Rattle.verdicts.specs.Judged.{verdictCheck};
 ghost use Rattle.listing.specs.Listed.{listingCheck};
 ghost use Rattle.walk.specs.Walk.{beginOf, stepOf};
-ghost use Rattle.numbers.specs.Numbers.{checkIs, readingIs, weightsIs, startIs, targetIs, halfSpaceIs, begunIs};
+ghost use Rattle.traces.specs.Traces.{listOf};
+ghost use Rattle.numbers.specs.Numbers.{checkIs, readingIs, weightsIs, startIs, targetIs, halfSpaceIs, begunIs, tracedIs};
 ghost use Rattle.krunvedo.specs.Exports.{recordOf, IsPaired, IsVerdict, IsReducedSpace, IsTwinned, IsListingText, refusalTold, refusalAfter};
 
 mod records; // records.rt: where a claim's record stands
 
 use numbers::Counted;
+use numbers::Fired;
 use numbers::Paired;
 use numbers::Record;
 use numbers::Refused;
@@ -219,6 +221,28 @@ pub extern "C" fn krunvedo_step(tokens: &mut [u16; Place::MOST], sheet: &[u8], t
     *tokens = next;
     let answer = s.answer;
     Refused::of_check(answer)
+}
+
+// The tokens are moved on by the whole list, or not at all. Before the slices stand 2 and 4 words, a hidden pointer to the answer among them.
+#[no_mangle]
+pub extern "C" fn krunvedo_fire_list(
+    tokens: &mut [u16; Place::MOST],
+    sheet: &[u8],
+    list: &[usize],
+) -> Fired
+    ensures { λ r. ⌜ r ≡ tracedIs (listOf (reading (now (sheet .entry))) (now (list .entry)) (record { tokens = now (tokens .entry) })) ⌝ }
+    ensures { λ _. ⌜ now (tokens .exit) ≡ listOf (reading (now (sheet .entry))) (now (list .entry)) (record { tokens = now (tokens .entry) }) .marking .tokens ⌝ }
+{
+    let before = *tokens;
+    let traced = traces::fire_list(Marking { tokens: before }, sheet, list);
+    let m = traced.marking;
+    let after = m.tokens;
+    *tokens = after;
+    let answer = traced.answer;
+    Fired {
+        refusal: Refused::of_check(answer),
+        position: traced.position,
+    }
 }
 
 // Before the slices stand 0, 2, 4 and 6 words. A hidden pointer to a longer answer would make it 5 before the queue.

@@ -22,6 +22,7 @@ use Rattle.twins.specs.declared.Reduced.{Reduced}
 use Rattle.twins.specs.declared.Twin.{Twin}
 use Rattle.twins.specs.declared.Twin.the-variants as twin-answers
 use Rattle.walk.specs.declared.Begun.{Begun}
+use Rattle.traces.specs.declared.Traced.{Traced}
 use Rattle.listing.specs.declared.Listed.{Listed}
 use Rattle.listing.specs.declared.Listed.the-variants as listed
 use Rattle.numbers.specs.declared.Refused as refused
@@ -33,6 +34,7 @@ use Rattle.numbers.specs.declared.Space.{Space}
 use Rattle.numbers.specs.declared.Paired.{Paired}
 use Rattle.numbers.specs.declared.Verdict.{Verdict}
 use Rattle.numbers.specs.declared.Twinned.{Twinned}
+use Rattle.numbers.specs.declared.Fired.{Fired}
 use Rattle.numbers.specs.declared.Written.{Written}
 
 -- A refusal has its number and its detail. Where nothing is refused both are 0, which is no refusal's number.
@@ -121,6 +123,10 @@ twinIs (twin-answers.Refused r) = record { refusal = refusalIs r; claim = 0 }
 -- the marking that a walk begins at
 abbrev pub begunIs : Begun → Tokens
 begunIs b = record { refusal = checkIs (b .answer); tokens = b .marking .tokens }
+
+-- a list that was fired, or the refusal and the position of the step that it came from
+abbrev pub tracedIs : Traced → Fired
+tracedIs a = record { refusal = checkIs (a .answer); position = a .position }
 
 -- a text that was written: its length, or the refusal
 abbrev pub listedIs : Listed → Written

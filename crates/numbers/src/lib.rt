@@ -84,6 +84,13 @@ pub struct Twinned {
     pub claim: usize,
 }
 
+// The position is that of the step that is refused, counted from 1; 0 where none is.
+#[repr(C)]
+pub struct Fired {
+    pub refusal: Refused,
+    pub position: usize,
+}
+
 // Number 0 and the text's length, or a refusal's number and its detail. Two words, so that an export needs no hidden pointer to it.
 #[repr(C)]
 pub struct Written {

@@ -50,3 +50,7 @@ textSize = 4096
 -- the tokens that a place of a walk's marking may hold
 abbrev pub mostTokens : ℕ
 mostTokens = 65535
+
+-- the firings of a list, at most 64 (a limit that 02 brings)
+abbrev pub mostFirings : ℕ
+mostFirings = 64

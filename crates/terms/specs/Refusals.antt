@@ -42,6 +42,10 @@ notEnabled p = record { number = 15; detail = OfPlace p }
 abbrev pub tooMany : Place → Refusal
 tooMany p = record { number = 16; detail = OfPlace p }
 
+-- 17, with its length: the list is longer than 64 (a number that 02 brings)
+abbrev pub longList : ℕ → Refusal
+longList length = record { number = 17; detail = Length length }
+
 -- 19, with the length needed: the area for a listing's text is too short (a number that 02 brings)
 abbrev pub smallText : Refusal
 smallText = record { number = 19; detail = Length textSize }

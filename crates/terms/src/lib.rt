@@ -5,7 +5,7 @@ ghost use lib.IntN.{natAbs};
 ghost use Rattle.signed.specs.Twos.{twos8, twos16};
 ghost use Rattle.terms.specs.Limits.{among as isAmong, weightFits, coefficientFits, constantFits, areasFit};
 ghost use Rattle.terms.specs.Kinds.{kindOfByte};
-ghost use Rattle.terms.specs.Refusals.{detailOf, refusedAt, notAClaim, notATransition, smallArea, notEnabled, tooMany, smallText};
+ghost use Rattle.terms.specs.Refusals.{detailOf, refusedAt, notAClaim, notATransition, smallArea, notEnabled, tooMany, longList, smallText};
 
 // Places, transitions and claims are counted apart, each from 1: none is ever taken for another.
 pub struct Place(pub usize);
@@ -59,6 +59,13 @@ pub struct Text {}
 
 impl Text {
     pub const SIZE: usize = 4096;
+}
+
+// A list of transitions that one call fires.
+pub struct Firings {}
+
+impl Firings {
+    pub const MOST: usize = 64;
 }
 
 // A weight taken or put.
@@ -252,6 +259,15 @@ impl Refusal {
         Refusal {
             number: 16,
             detail: Detail::OfPlace(over),
+        }
+    }
+
+    pub fn long_list(length: usize) -> Refusal
+        ensures { λ r. ⌜ r ≡ longList length ⌝ }
+    {
+        Refusal {
+            number: 17,
+            detail: Detail::Length(length),
         }
     }
 

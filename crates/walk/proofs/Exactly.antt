@@ -43,7 +43,7 @@ detail-of (Refused r) = detailOf (r .detail)
 same-place : (p q : Place) → p .0 ≡ q .0 → p ≡ q
 same-place p q e = ap {B = Place} (λ (i : ℕ). record { 0 = i }) e
 
-below-or-not : (a b : ℕ) → (a < b) ⊎ (b ≤ a)
+pub below-or-not : (a b : ℕ) → (a < b) ⊎ (b ≤ a)
 below-or-not a b = by-test (ltb a b) refl
   where
     by-test : (t : Bool) → ltb a b ≡ t → (a < b) ⊎ (b ≤ a)

@@ -76,7 +76,7 @@ fn firing(m: Marking, taken: [u8; Place::MOST], put: [u8; Place::MOST], n: usize
 }
 
 // The step on a sheet that was read.
-fn step_in(m: Marking, sheet: &[u8], counts: Counts, t: Transition) -> Moved
+pub fn step_in(m: Marking, sheet: &[u8], counts: Counts, t: Transition) -> Moved
     requires { ⌜ Known (now sheet) counts ⌝ }
     ensures { λ r. ⌜ r ≡ stepOf (reading (now (sheet .entry))) t m ⌝ }
 {

@@ -1,0 +1,5 @@
+pub mod Turns
+pub mod Order
+pub mod Lists
+pub mod Exactly
+pub mod Sequences
