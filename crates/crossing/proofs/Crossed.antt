@@ -17,9 +17,8 @@ use Rattle.format.specs.Formed.{IsWeight}
 use Rattle.format.specs.Reading.{transitionIn}
 use Rattle.format.proofs.Everywhere.{all-getD}
 use Rattle.search.specs.Searched.{Hit, Best, Without, Ends}
-use Rattle.crossing.specs.Range.{Values}
-use Rattle.crossing.specs.Crosses.{Ready, space}
-use Rattle.crossing.proofs.Bounds.{value-range}
+use Rattle.values.specs.Ready.{Ready, space}
+use Rattle.values.proofs.Bounds.{taken-range, put-range}
 use Rattle.crossing.proofs.Rows.{sixteen-plus}
 
 take-at-most : (n : ℕ) (xs : List ℕ) (p : ℕ) → getD (take n xs) p 0 ≤ getD xs p 0
@@ -35,20 +34,14 @@ module _ (ks : List ℤ) (c : ℤ) (s : List ℕ) (n at : ℕ) (r : Ready ks c s
   abbrev t : Transition
   t = transitionIn s n at
 
-  pub taken-range : Values (value ks (t .taken))
-  taken-range = value-range ks (t .taken) (r .coefficients .each) (r .weights .taken .each) (omega (arith, r .weights .taken .places, r .places))
-
-  pub put-range : Values (value ks (t .put))
-  put-range = value-range ks (t .put) (r .coefficients .each) (r .weights .put .each) (omega (arith, r .weights .put .places, r .places))
-
   same : length (t .put) ≡ length (t .taken)
   same = r .weights .put .places ∙ sym (r .weights .taken .places)
 
   -- the window is not too wide for the search
   pub ends : Ends (low-end h t) (high-end h t)
   ends =
-      let a = taken-range in
-      let b = put-range in
+      let a = taken-range ks c s n at r in
+      let b = put-range ks c s n at r in
       let k = r .constant in
       record { low = simp linear (omega (arith, bounds)); high = simp linear (omega (arith, bounds)); top = simp linear (omega (arith, bounds)) }
 

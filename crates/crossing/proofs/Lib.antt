@@ -1,4 +1,2 @@
-pub mod Bounds
 pub mod Rows
 pub mod Crossed
-pub mod Asking

@@ -3,7 +3,8 @@ ghost use mathlib.Core.Path.{_≡_};
 ghost use lib.ListN.{length, take};
 ghost use Rattle.nets.specs.Window.{low-end, high-end};
 ghost use Rattle.format.specs.Reading.{transitionIn};
-ghost use Rattle.crossing.specs.Crosses.{Crosses, Ready, space};
+ghost use Rattle.values.specs.Ready.{Ready, space};
+ghost use Rattle.crossing.specs.Crosses.{Crosses};
 
 mod window; // window.rt: the ends of Theorem 1's window, and the marking beside it
 

@@ -4,7 +4,7 @@ ghost use Prim.Native.Nat.{ℕ, _+_, _≤_};
 ghost use lib.IntN.{pos, _-ℤ_};
 ghost use lib.ListN.{getD};
 ghost use Rattle.nets.specs.Nets.{_⊞_};
-ghost use Rattle.crossing.specs.Range.{Constants, Values};
+ghost use Rattle.values.specs.Range.{Constants, Values};
 use terms::Place;
 
 pub struct Window {

@@ -5,7 +5,7 @@ ghost use lib.ListN.{length, take};
 ghost use Rattle.nets.specs.HalfSpaces.{Inside};
 ghost use Rattle.nets.specs.Verdicts.{Setting, TargetInside};
 ghost use Rattle.format.specs.Reading.{words, targetIn};
-ghost use Rattle.crossing.specs.Crosses.{space};
+ghost use Rattle.values.specs.Ready.{space};
 ghost use Rattle.residues.specs.Told.{Says};
 use residues::signs::some_above;
 use rows::tokens_from;

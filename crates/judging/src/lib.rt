@@ -6,8 +6,8 @@ ghost use Rattle.format.specs.Read.{sound};
 ghost use Rattle.format.specs.Contents.{Contents, halfSpace, claim};
 ghost use Rattle.format.specs.Formed.{Row, IsCoefficient};
 ghost use Rattle.format.specs.Reading.{reading};
-ghost use Rattle.crossing.specs.Range.{Constants};
-ghost use Rattle.crossing.specs.Crosses.{space};
+ghost use Rattle.values.specs.Range.{Constants};
+ghost use Rattle.values.specs.Ready.{space};
 ghost use Rattle.sheet.specs.Known.{Known};
 ghost use Rattle.judging.specs.Judges.{Judges, plainJudged};
 

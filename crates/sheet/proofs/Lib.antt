@@ -1,3 +1,4 @@
 pub mod Taken
 pub mod Parts
 pub mod Known
+pub mod Asking

@@ -11,7 +11,7 @@ use Rattle.nets.specs.Nets.{_⊞_}
 use Rattle.nets.specs.Window.{low-end, high-end}
 use Rattle.format.specs.Reading.{transitionIn}
 use Rattle.search.specs.Searched.{Answer, Best, Without}
-use Rattle.crossing.specs.Crosses.{space}
+use Rattle.values.specs.Ready.{space}
 use Rattle.crossing.proofs.Crossed.{ends, kept-so, row-so, shown-so}
 use borrow.Author.Needs.{needs}
 use Rattle.crossing.proofs.crossing_of.Statement.{statement}

@@ -8,7 +8,7 @@ use mir.Val.{toZ, ofZ}
 use mir.Facts.{toZ-ofZ}
 use Rattle.nets.specs.HalfSpaces.{value}
 use Rattle.format.specs.Reading.{bytes}
-use Rattle.crossing.proofs.Crossed.{taken-range, put-range}
+use Rattle.values.proofs.Bounds.{taken-range, put-range}
 use borrow.Author.Needs.{needs}
 use Rattle.crossing.proofs.window_at.Statement.{statement}
 use Rattle.crossing.proofs.window_at.Tie as tie

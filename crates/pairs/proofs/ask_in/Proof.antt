@@ -11,8 +11,9 @@ use Rattle.format.specs.Contents.{Contents, halfSpace, claim}
 use Rattle.format.specs.Reading.{transitionIn}
 use Rattle.format.proofs.ClaimRecord.{sheet-of}
 use Rattle.sheet.proofs.Known.{same-contents, limits, claim-whole, transition-is, space-is}
-use Rattle.crossing.specs.Crosses.{Crosses, space}
-use Rattle.crossing.proofs.Asking.{numbers-fit, ready}
+use Rattle.values.specs.Ready.{space}
+use Rattle.crossing.specs.Crosses.{Crosses}
+use Rattle.sheet.proofs.Asking.{numbers-fit, ready}
 use borrow.Author.Needs.{needs}
 use Rattle.pairs.proofs.ask_in.Statement.{statement}
 use Rattle.pairs.proofs.ask_in.Tie as tie

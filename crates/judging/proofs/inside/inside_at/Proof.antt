@@ -10,7 +10,7 @@ use borrow.Kind.Array.{eSInt, good-length}
 use Rattle.nets.specs.HalfSpaces.{value}
 use Rattle.format.specs.Reading.{words}
 use Rattle.rows.proofs.Filled.{length-words}
-use Rattle.crossing.specs.Crosses.{space}
+use Rattle.values.specs.Ready.{space}
 use Rattle.judging.proofs.Rows.{value-row, says-inside}
 use borrow.Author.Needs.{needs, sfits-of}
 use borrow.Author.Needs.{needs}

@@ -6,7 +6,7 @@ use lib.Seq.{length-take-le}
 use mir.Syntax.{w8}
 use mir.Facts.{toZ-ofZ}
 use borrow.Kind.Array.{eSInt, good-length}
-use Rattle.crossing.specs.Crosses.{space}
+use Rattle.values.specs.Ready.{space}
 use Rattle.judging.proofs.Answered.{holds, fails}
 use Rattle.judging.proofs.Targets.{written-inside, exact-outside, above-only, says-so}
 use borrow.Author.Needs.{needs}

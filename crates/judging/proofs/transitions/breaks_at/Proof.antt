@@ -7,7 +7,7 @@ use mir.Facts.{toZ-ofZ}
 use borrow.Author.Needs.{needs, sfits-of}
 use Rattle.nets.specs.HalfSpaces.{value}
 use Rattle.format.specs.Reading.{transitionIn}
-use Rattle.crossing.proofs.Crossed.{taken-range, put-range}
+use Rattle.values.proofs.Bounds.{taken-range, put-range}
 use borrow.Author.Needs.{needs}
 use Rattle.judging.proofs.transitions.breaks_at.Statement.{statement}
 use Rattle.judging.proofs.transitions.breaks_at.Tie as tie

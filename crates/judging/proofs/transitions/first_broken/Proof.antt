@@ -14,8 +14,8 @@ use Rattle.format.specs.Reading.{reading, transitionIn, transitionsFrom, transi
 use Rattle.format.proofs.ClaimRecord.{sheet-of}
 use Rattle.sheet.proofs.Known.{same-contents, limits, transition-is, transitions-count}
 use Rattle.residues.specs.Told.{IsBroken}
-use Rattle.crossing.specs.Crosses.{space}
-use Rattle.crossing.proofs.Asking.{ready}
+use Rattle.values.specs.Ready.{space}
+use Rattle.sheet.proofs.Asking.{ready}
 use Rattle.judging.specs.Judges.{FirstBroken}
 use Rattle.judging.proofs.Lowest.{KeptTo, none-yet, one-more, all-kept, found-so, within}
 use Rattle.judging.proofs.transitions.first_broken.Statement.{statement}

@@ -13,7 +13,9 @@ use Rattle.signed.specs.Parts.{lt-false, le-true}
 use Rattle.terms.specs.Limits.{coefficientFits, constantFits}
 use Rattle.nets.specs.HalfSpaces.{value}
 use Rattle.format.specs.Formed.{All, IsCoefficient, IsWeight}
-use Rattle.crossing.specs.Range.{Constants, Values}
+use Rattle.format.specs.Reading.{transitionIn}
+use Rattle.values.specs.Range.{Constants, Values}
+use Rattle.values.specs.Ready.{Ready}
 
 -- a number that is not below one end and not above the other
 between : (t u : Bool) → cond t false u ≡ true → (t ≡ false) × (u ≡ true)
@@ -39,7 +41,14 @@ value-bound (k ∷ ks) (w ∷ ws) hk hw =
     simp linear
     (omega (arith, leb-true w 9 (hw .0), simp linear at (mul-le k 100 w (r .1)), simp linear at (mul-ge k 100 w (r .0)), simp linear at (value-bound ks ws (hk .1) (hw .1))))
 
-pub value-range : (ks : List ℤ) (ws : List ℕ) → All IsCoefficient ks → All IsWeight ws → length ws ≤ 16 → Values (value ks ws)
+value-range : (ks : List ℤ) (ws : List ℕ) → All IsCoefficient ks → All IsWeight ws → length ws ≤ 16 → Values (value ks ws)
 value-range ks ws k w l =
     let b = simp linear at (value-bound ks ws k w) in
     record { low = simp linear (omega arith); high = simp linear (omega arith) }
+
+module _ (ks : List ℤ) (c : ℤ) (s : List ℕ) (n at : ℕ) (r : Ready ks c s n at) where
+  pub taken-range : Values (value ks (transitionIn s n at .taken))
+  taken-range = value-range ks (transitionIn s n at .taken) (r .coefficients .each) (r .weights .taken .each) (omega (arith, r .weights .taken .places, r .places))
+
+  pub put-range : Values (value ks (transitionIn s n at .put))
+  put-range = value-range ks (transitionIn s n at .put) (r .coefficients .each) (r .weights .put .each) (omega (arith, r .weights .put .places, r .places))
