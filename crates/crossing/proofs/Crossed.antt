@@ -9,7 +9,7 @@ use borrow.Author.Tests.{leb-true}
 use Rattle.signed.specs.Linear.{linear}
 use Rattle.signed.specs.Parts.{bounds}
 use Rattle.nets.specs.Nets.{Transition, _⊞_, Room}
-use Rattle.nets.specs.HalfSpaces.{HalfSpace, value, Kept, Shown, sixteen}
+use Rattle.nets.specs.HalfSpaces.{HalfSpace, Kept, Shown, sixteen}
 use Rattle.nets.specs.Window.{low-end, high-end, InWindow}
 use Rattle.nets.proofs.Vectors.{getD-plus, room-length}
 use Rattle.nets.proofs.Theorem1.{bad-beside, kept-exactly}

@@ -1,31 +1,15 @@
 -- The verdict once each question is answered.
-use mathlib.Core.Path.{_≡_, refl, ap}
+use mathlib.Core.Path.{refl, ap}
 use mathlib.Core.Bool.{Bool, true, false}
 use mathlib.Core.List.{List}
 use Prim.Native.Nat.{ℕ, suc}
-use native.Mathlib.Omega.{arith}
 use Rattle.nets.specs.Nets.{transition}
 use Rattle.nets.specs.HalfSpaces.{HalfSpace, Inside, Outside, Kept, Broken}
 use Rattle.nets.specs.Verdicts.{Setting, TargetInside, Separates, start-outside, target-inside, broken, proof, IsVerdict}
-use Rattle.residues.specs.Told.{Says}
 use Rattle.crossing.specs.Crosses.{Crosses}
 use Rattle.judging.specs.declared.Answer.the-variants as answers
-use Rattle.judging.specs.Judges.{plainJudged, Judges, FirstBroken}
-
--- Q is said to hold, or not to hold
-pub holds : {Q : Type 0} (t : Bool) → t ≡ true → Says t Q → Q
-holds true e s = s
-holds false e s = absurd (no-way e)
-  where
-    no-way : false ≡ true → ⊥
-    no-way e = let z : _≡_ {A = ℕ} 0 1 = cc in omega arith
-
-pub fails : {Q : Type 0} (t : Bool) → t ≡ false → Says t Q → Q → ⊥
-fails false e s = s
-fails true e s = absurd (no-way e)
-  where
-    no-way : true ≡ false → ⊥
-    no-way e = let z : _≡_ {A = ℕ} 0 1 = cc in omega arith
+use Rattle.lowest.specs.Lowest.{FirstBroken}
+use Rattle.judging.specs.Judges.{plainJudged, Judges}
 
 module _ (q : Setting) (h : HalfSpace) where
   pub outside-so : (Inside h (q .start) → ⊥) → Judges q h (plainJudged answers.StartOutside)

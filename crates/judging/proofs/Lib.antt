@@ -1,4 +1,1 @@
-pub mod Rows
-pub mod Targets
 pub mod Answered
-pub mod Lowest

@@ -1,9 +1,7 @@
 -- The verdict on a half space: document 01, "Half spaces and verdicts".
 use mathlib.Core.Path.{_≡_}
 use mathlib.Core.List.{[]}
-use Prim.Native.Nat.{ℕ, zero, suc, _<_}
-use Rattle.nets.specs.Nets.{Net, IsTransition, transition}
-use Rattle.nets.specs.HalfSpaces.{HalfSpace, Kept, Broken, sixteen}
+use Rattle.nets.specs.HalfSpaces.{HalfSpace, sixteen}
 use Rattle.nets.specs.Verdicts as nets
 use Rattle.judging.specs.declared.Answer.{Answer}
 use Rattle.judging.specs.declared.Answer.the-variants as answers
@@ -23,8 +21,3 @@ judgedOf nets.proof = plainJudged answers.Proof
 -- the answer is the verdict on the half space
 abbrev pub Judges : nets.Setting → HalfSpace → Judged → Type 0
 Judges q h r = (v : nets.Verdict) × nets.IsVerdict q h v × (r ≡ judgedOf v)
-
--- the lowest transition that breaks it; 0 where every one keeps it
-abbrev pub FirstBroken : Net → HalfSpace → ℕ → Type 0
-FirstBroken N h zero = (t : ℕ) → IsTransition N t → Kept h (transition N t)
-FirstBroken N h (suc t) = IsTransition N (suc t) × Broken h (transition N (suc t)) × ((u : ℕ) → IsTransition N u → u < suc t → Kept h (transition N u))

@@ -11,21 +11,18 @@ ghost use Rattle.values.specs.Ready.{space};
 ghost use Rattle.sheet.specs.Known.{Known};
 ghost use Rattle.judging.specs.Judges.{Judges, plainJudged};
 
-mod inside; // inside.rt: do the start, or some target marking, lie inside?
-mod transitions; // transitions.rt: the lowest transition that breaks a half space
-
 use crossing::crossing_of;
 use inside::inside_at;
 use inside::target_inside;
 use layout::behind_claims;
 use layout::behind_transitions;
 use layout::target_from;
+use lowest::first_broken;
 use reader::Counts;
 use rows::numbers_at;
 use terms::Place;
 use terms::Refusal;
 use terms::Transition;
-use transitions::first_broken;
 
 // The four verdicts in their order, or a refusal. Broken names the lowest transition that breaks the claim.
 pub enum Answer {

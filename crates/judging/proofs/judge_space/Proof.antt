@@ -19,10 +19,12 @@ use Rattle.residues.specs.Told.{Says}
 use Rattle.values.specs.Ready.{space}
 use Rattle.crossing.specs.Crosses.{Crosses}
 use Rattle.sheet.proofs.Asking.{ready}
+use Rattle.inside.proofs.Said.{holds, fails}
+use Rattle.lowest.specs.Lowest.{FirstBroken}
 use Rattle.judging.specs.declared.Answer.the-variants as answers
 use Rattle.judging.specs.declared.Judged.{Judged}
-use Rattle.judging.specs.Judges.{Judges, FirstBroken}
-use Rattle.judging.proofs.Answered.{holds, fails, outside-so, target-so, proof-so, broken-so}
+use Rattle.judging.specs.Judges.{Judges}
+use Rattle.judging.proofs.Answered.{outside-so, target-so, proof-so, broken-so}
 use borrow.Author.Needs.{needs}
 use Rattle.judging.proofs.judge_space.Statement.{statement}
 use Rattle.judging.proofs.judge_space.Tie as tie

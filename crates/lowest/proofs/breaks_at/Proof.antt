@@ -9,8 +9,8 @@ use Rattle.nets.specs.HalfSpaces.{value}
 use Rattle.format.specs.Reading.{transitionIn}
 use Rattle.values.proofs.Bounds.{taken-range, put-range}
 use borrow.Author.Needs.{needs}
-use Rattle.judging.proofs.transitions.breaks_at.Statement.{statement}
-use Rattle.judging.proofs.transitions.breaks_at.Tie as tie
+use Rattle.lowest.proofs.breaks_at.Statement.{statement}
+use Rattle.lowest.proofs.breaks_at.Tie as tie
 
 -- the values that are handed on
 taken-value : (c : tie.After-value-at) → toZ w32 (ofZ w32 (c .value-at .result)) ≡ value (take (c .before .before .before .args .n) (c .before .before .before .args .k)) (transitionIn (c .before .before .before .args .sheet .now) (c .before .before .before .args .n) (c .before .before .before .args .at) .taken)

@@ -16,10 +16,10 @@ use Rattle.sheet.proofs.Known.{same-contents, limits, transition-is, transition
 use Rattle.residues.specs.Told.{IsBroken}
 use Rattle.values.specs.Ready.{space}
 use Rattle.sheet.proofs.Asking.{ready}
-use Rattle.judging.specs.Judges.{FirstBroken}
-use Rattle.judging.proofs.Lowest.{KeptTo, none-yet, one-more, all-kept, found-so, within}
-use Rattle.judging.proofs.transitions.first_broken.Statement.{statement}
-use Rattle.judging.proofs.transitions.first_broken.Tie as tie
+use Rattle.lowest.specs.Lowest.{FirstBroken}
+use Rattle.lowest.proofs.Lowest.{KeptTo, none-yet, one-more, all-kept, found-so, within}
+use Rattle.lowest.proofs.first_broken.Statement.{statement}
+use Rattle.lowest.proofs.first_broken.Tie as tie
 use borrow.Author.Needs.{needs}
 
 abbrev Inv-loop : tie.InvT-loop

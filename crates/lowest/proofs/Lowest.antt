@@ -15,7 +15,7 @@ use Rattle.nets.specs.HalfSpaces.{HalfSpace, Kept, Broken}
 use Rattle.format.specs.Formed.{All, IsCoefficient}
 use Rattle.residues.specs.Sums.{sizes, Within}
 use Rattle.values.proofs.Bounds.{coefficient-range}
-use Rattle.judging.specs.Judges.{FirstBroken}
+use Rattle.lowest.specs.Lowest.{FirstBroken}
 
 -- the first t transitions keep it
 abbrev pub KeptTo : Net → HalfSpace → ℕ → Type 0

@@ -11,11 +11,11 @@ use Rattle.nets.specs.HalfSpaces.{value}
 use Rattle.format.specs.Reading.{words}
 use Rattle.rows.proofs.Filled.{length-words}
 use Rattle.values.specs.Ready.{space}
-use Rattle.judging.proofs.Rows.{value-row, says-inside}
+use Rattle.inside.proofs.Rows.{value-row, says-inside}
 use borrow.Author.Needs.{needs, sfits-of}
 use borrow.Author.Needs.{needs}
-use Rattle.judging.proofs.inside.inside_at.Statement.{statement}
-use Rattle.judging.proofs.inside.inside_at.Tie as tie
+use Rattle.inside.proofs.inside_at.Statement.{statement}
+use Rattle.inside.proofs.inside_at.Tie as tie
 
 tokens-from-requires : tie.Need-tokens-from-requires
 tokens-from-requires c κs = search needs

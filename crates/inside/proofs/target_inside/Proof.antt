@@ -7,11 +7,11 @@ use mir.Syntax.{w8}
 use mir.Facts.{toZ-ofZ}
 use borrow.Kind.Array.{eSInt, good-length}
 use Rattle.values.specs.Ready.{space}
-use Rattle.judging.proofs.Answered.{holds, fails}
-use Rattle.judging.proofs.Targets.{written-inside, exact-outside, above-only, says-so}
+use Rattle.inside.proofs.Said.{holds, fails}
+use Rattle.inside.proofs.Targets.{written-inside, exact-outside, above-only, says-so}
 use borrow.Author.Needs.{needs}
-use Rattle.judging.proofs.inside.target_inside.Statement.{statement}
-use Rattle.judging.proofs.inside.target_inside.Tie as tie
+use Rattle.inside.proofs.target_inside.Statement.{statement}
+use Rattle.inside.proofs.target_inside.Tie as tie
 
 places : (c : tie.Start) → length (take (c .args .n) (c .args .t1)) ≡ c .args .n
 places c = length-take-le (c .args .n) (c .args .t1) (omega (arith, c .pre .0, good-length (eSInt w8) 16 (c .args .t1) _ (c .good .0)))
