@@ -4,12 +4,12 @@ ghost use mathlib.Core.List.{List};
 ghost use Prim.Native.Nat.{ℕ, _≤_};
 ghost use lib.ListN.{length, take};
 ghost use Rattle.format.specs.Reading.{reading};
-ghost use Rattle.listing.specs.Listed.{IsPage};
+ghost use Rattle.page.specs.Page.{IsPage};
 ghost use Rattle.judge.specs.Input.{Within};
 use libc::STDERR_FILENO;
 use libc::STDIN_FILENO;
 use libc::STDOUT_FILENO;
-use listing::page;
+use page::page;
 use terms::Area;
 
 // How much was taken in, at the start of the room that was lent.

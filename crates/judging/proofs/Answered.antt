@@ -7,9 +7,9 @@ use Rattle.nets.specs.Nets.{transition}
 use Rattle.nets.specs.HalfSpaces.{HalfSpace, Inside, Outside, Kept, Broken}
 use Rattle.nets.specs.Verdicts.{Setting, TargetInside, Separates, start-outside, target-inside, broken, proof, IsVerdict}
 use Rattle.crossing.specs.Crosses.{Crosses}
-use Rattle.judging.specs.declared.Answer.the-variants as answers
+use Rattle.judged.specs.declared.Answer.the-variants as answers
 use Rattle.lowest.specs.Lowest.{FirstBroken}
-use Rattle.judging.specs.Judges.{plainJudged, Judges}
+use Rattle.judged.specs.Judges.{plainJudged, Judges}
 
 module _ (q : Setting) (h : HalfSpace) where
   pub outside-so : (Inside h (q .start) → ⊥) → Judges q h (plainJudged answers.StartOutside)

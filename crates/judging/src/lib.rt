@@ -9,11 +9,13 @@ ghost use Rattle.format.specs.Reading.{reading};
 ghost use Rattle.values.specs.Range.{Constants};
 ghost use Rattle.values.specs.Ready.{space};
 ghost use Rattle.sheet.specs.Known.{Known};
-ghost use Rattle.judging.specs.Judges.{Judges, plainJudged};
+ghost use Rattle.judged.specs.Judges.{Judges};
 
 use crossing::crossing_of;
 use inside::inside_at;
 use inside::target_inside;
+use judged::Answer;
+use judged::Judged;
 use layout::behind_claims;
 use layout::behind_transitions;
 use layout::target_from;
@@ -21,34 +23,7 @@ use lowest::first_broken;
 use reader::Counts;
 use rows::numbers_at;
 use terms::Place;
-use terms::Refusal;
 use terms::Transition;
-
-// The four verdicts in their order, or a refusal. Broken names the lowest transition that breaks the claim.
-pub enum Answer {
-    StartOutside,
-    TargetInside,
-    Broken(Transition),
-    Proof,
-    Refused(Refusal),
-}
-
-// The marking is bad where the answer is Broken, and zeros elsewhere.
-pub struct Judged {
-    pub answer: Answer,
-    pub marking: [u16; Place::MOST],
-}
-
-impl Judged {
-    pub fn plain(answer: Answer) -> Judged
-        ensures { λ r. ⌜ r ≡ plainJudged answer ⌝ }
-    {
-        Judged {
-            answer,
-            marking: [0u16; Place::MOST],
-        }
-    }
-}
 
 // The coefficients k and the constant c, against the net, the start and the target of a sound sheet.
 fn judge_space(

@@ -15,11 +15,11 @@ use Rattle.sheet.specs.Part.{recordAt, recordBytes}
 use Rattle.pairs.specs.Pairs.{IsPair}
 use Rattle.pairs.specs.declared.Pair.{Pair}
 use Rattle.verdicts.specs.Judged.{IsJudged}
-use Rattle.judging.specs.declared.Judged.{Judged}
+use Rattle.judged.specs.declared.Judged.{Judged}
 use Rattle.twins.specs.Answers.{IsReducedOf, IsTwinOf}
 use Rattle.twins.specs.declared.Reduced.{Reduced}
 use Rattle.twins.specs.declared.Twin.{Twin}
-use Rattle.lines.specs.Lines.{refusedLine}
+use Rattle.phrases.specs.Phrases.{refusedLine}
 use Rattle.listing.specs.Listed.{IsListed}
 use Rattle.listing.specs.declared.Listed.{Listed}
 use Rattle.listing.specs.declared.Listed.the-variants as listed

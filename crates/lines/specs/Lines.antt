@@ -1,36 +1,11 @@
--- The listing's lines: document 01, "The listing". Fields are parted by one space, and each line ends with one newline byte.
-use mathlib.Core.List.{List, [], _∷_, _++_}
-use Prim.Native.Nat.{ℕ, zero, suc, _<_}
-use Rattle.terms.specs.Refusals.{detailOf}
-use Rattle.terms.specs.declared.Refusal.{Refusal}
+-- A claim's line: document 01, "The listing".
+use mathlib.Core.List.{List, [], _++_}
+use Prim.Native.Nat.{ℕ, _<_}
 use Rattle.nets.specs.Verdicts.{Verdict, start-outside, target-inside, broken, proof}
 use Rattle.text.specs.Bytes.{chars, decimal}
-use Rattle.judging.specs.declared.Answer.{Answer}
-use Rattle.judging.specs.declared.Answer.the-variants as answers
-
-abbrev pub newline : List ℕ
-newline = 10 ∷ []
-
--- a refusal's number and detail
-abbrev pub refusedLine : ℕ → ℕ → List ℕ
-refusedLine number detail = (chars "refused " ++ decimal number) ++ (chars " at " ++ decimal detail) ++ newline
-
-abbrev pub refusalLine : Refusal → List ℕ
-refusalLine r = refusedLine (r .number) (detailOf (r .detail))
-
--- the counts: places, transitions, claims
-abbrev pub countsLine : ℕ → ℕ → ℕ → List ℕ
-countsLine n T claims = (chars "places " ++ decimal n) ++ (chars " transitions " ++ decimal T) ++ (chars " claims " ++ decimal claims) ++ newline
-
--- the tokens of a marking, each behind a space
-unfoldable pub tokensText : List ℕ → List ℕ
-tokensText [] = []
-tokensText (m ∷ ms) = (chars " " ++ decimal m) ++ tokensText ms
-
--- the lowest earlier twin; 0 where there is none
-abbrev pub twinText : ℕ → List ℕ
-twinText zero = []
-twinText (suc j) = chars " twin " ++ decimal (suc j)
+use Rattle.phrases.specs.Phrases.{newline, tokensText, twinText}
+use Rattle.judged.specs.declared.Answer.{Answer}
+use Rattle.judged.specs.declared.Answer.the-variants as answers
 
 -- the verdict: broken with the transition and the tokens of the bad marking
 abbrev pub verdictText : Verdict → List ℕ

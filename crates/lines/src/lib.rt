@@ -1,56 +1,14 @@
-// The lines of a listing.
-ghost use mathlib.Core.List.{_++_};
+// The line of a claim.
 ghost use Prim.Native.Nat.{_+_, _≤_, _<_};
 ghost use lib.ListN.{length, take};
-ghost use Rattle.text.specs.Bytes.{Wrote, chars, decimal};
-ghost use Rattle.lines.specs.Lines.{countsLine, refusedLine, tokensText, twinText, answerText, answerLine, Brief};
-use judging::Answer;
-use judging::Judged;
-use reader::Counts;
-use terms::Place;
+ghost use Rattle.text.specs.Bytes.{Wrote};
+ghost use Rattle.lines.specs.Lines.{answerText, answerLine, Brief};
+use judged::Answer;
+use judged::Judged;
+use phrases::tokens;
+use phrases::twin;
 use text::labelled;
 use text::put;
-
-pub fn counts_line(text: &mut [u8], at: usize, counts: Counts) -> usize
-    requires { ⌜ at + length (countsLine (counts .places) (counts .transitions) (counts .claims)) ≤ length (now text) ⌝ }
-    ensures { λ r. ⌜ Wrote (countsLine (counts .places) (counts .transitions) (counts .claims)) (now (text .entry)) at (now (text .exit)) r ⌝ }
-{
-    let places = labelled(text, at, b"places ", counts.places);
-    let transitions = labelled(text, places, b" transitions ", counts.transitions);
-    let claims = labelled(text, transitions, b" claims ", counts.claims);
-    put(text, claims, b"\n")
-}
-
-pub fn refusal_line(text: &mut [u8], at: usize, number: u8, detail: usize) -> usize
-    requires { ⌜ at + 36 ≤ length (now text) ⌝ }
-    ensures { λ r. ⌜ Wrote (refusedLine number detail) (now (text .entry)) at (now (text .exit)) r ⌝ }
-{
-    let end = labelled(text, at, b"refused ", number as usize);
-    let last = labelled(text, end, b" at ", detail);
-    put(text, last, b"\n")
-}
-
-// A space and the tokens of one place.
-fn tokens_of_one(text: &mut [u8], at: usize, m: u16) -> usize
-    requires { ⌜ at + 6 ≤ length (now text) ⌝ }
-    ensures { λ r. ⌜ Wrote (chars " " ++ decimal m) (now (text .entry)) at (now (text .exit)) r × (r ≤ at + 6) ⌝ }
-{
-    labelled(text, at, b" ", m as usize)
-}
-
-// The tokens of the first n places.
-fn tokens(text: &mut [u8], at: usize, marking: [u16; Place::MOST], n: usize) -> usize
-    requires { ⌜ (n ≤ 16) × (at + 96 ≤ length (now text)) ⌝ }
-    ensures { λ r. ⌜ Wrote (tokensText (take n marking)) (now (text .entry)) at (now (text .exit)) r × (r ≤ at + 96) ⌝ }
-{
-    let mut end = at;
-    let mut p = 0;
-    while p < n {
-        end = tokens_of_one(text, end, marking[p]);
-        p += 1;
-    }
-    end
-}
 
 // The verdict, in words; broken with the transition and the tokens.
 fn verdict(text: &mut [u8], at: usize, judged: Judged, n: usize) -> usize
@@ -70,17 +28,6 @@ fn verdict(text: &mut [u8], at: usize, judged: Judged, n: usize) -> usize
         // The type has this case for `verdict_of`; a claim that is listed was judged, and is never refused.
         Answer::Refused(_) => at,
     }
-}
-
-// The lowest earlier twin, unless it is 0.
-fn twin(text: &mut [u8], at: usize, j: usize) -> usize
-    requires { ⌜ (at + 8 ≤ length (now text)) × (j < 100) ⌝ }
-    ensures { λ r. ⌜ Wrote (twinText j) (now (text .entry)) at (now (text .exit)) r × (r ≤ at + 8) ⌝ }
-{
-    if j == 0 {
-        return at;
-    }
-    labelled(text, at, b" twin ", j)
 }
 
 pub fn claim_line(text: &mut [u8], at: usize, i: usize, judged: Judged, j: usize, n: usize) -> usize

@@ -16,9 +16,10 @@ use Rattle.terms.specs.declared.Check.{Check}
 use Rattle.terms.specs.declared.Check.the-variants.{Fine, Refused}
 use Rattle.twins.proofs.OneAnswer.{one-number}
 use Rattle.lines.specs.Lines.{claimLine}
+use Rattle.entries.specs.Entries.{IsLine, AreLines, IsListing, countsOfSheet}
 use Rattle.listing.specs.declared.Listed.{Listed}
-use Rattle.listing.specs.Listed.{IsLine, AreLines, IsListing, IsListed, Lists, IsPage, IsRefusalText, RefusalWritten, roomCheck, countsOfSheet}
-use Rattle.listing.specs.Alike.{LineAlike, LinesAlike, Alike, Unbroken, PagesAlike, AnswersAlike, both-refused, both-listed}
+use Rattle.listing.specs.Listed.{IsListed, Lists, IsRefusalText, RefusalWritten, roomCheck}
+use Rattle.listing.specs.Alike.{LineAlike, LinesAlike, Alike, Unbroken, AnswersAlike, both-refused, both-listed}
 
 module _ (x : Contents) where
   line-alike : (i : ℕ) (a b : List ℕ) → IsLine x i a → IsLine x i b → LineAlike i a b
@@ -81,11 +82,6 @@ module _ (x : Contents) where
   pub alike-equal : ((k : ℕ) → 1 ≤ k → k ≤ length (x .claims) → Unbroken x k) → (t u : List ℕ) → IsListing x t → IsListing x u → t ≡ u
   alike-equal none t u a b =
       a .is ∙ ap (λ (ls : List ℕ). countsOfSheet x ++ ls) (lines-equal (length (x .claims)) none (a .lines) (b .lines) (a .are) (b .are)) ∙ sym (b .is)
-
--- two pages of one sheet
-pub pages-alike : (y : Read Contents) (t u : List ℕ) → IsPage y t → IsPage y u → PagesAlike y t u
-pages-alike (sound x) t u a b = alike x t u a b
-pages-alike (refused q) t u a b = a ∙ sym b
 
 -- two answers to one call
 lists-alike : (k : Check) (x : Contents) (old new new-too : List ℕ) (r s : Listed) → Lists k x old new r → Lists k x old new-too s → AnswersAlike (sound x) old new new-too r s

@@ -1,3 +1,2 @@
-pub mod Lined
-pub mod Paged
+pub mod Room
 pub mod Alike

@@ -6,12 +6,12 @@ use lib.ListN.{length, drop}
 use Rattle.terms.specs.declared.Refusal.{Refusal}
 use Rattle.nets.specs.Nets.{Marking}
 use Rattle.nets.specs.Verdicts.{Verdict, broken, IsVerdict, SameBut}
-use Rattle.format.specs.Read.{Read, sound, refused}
+use Rattle.format.specs.Read.{Read, sound}
 use Rattle.format.specs.Contents.{Contents, halfSpace, claim}
 use Rattle.lines.specs.Lines.{claimLine}
 use Rattle.listing.specs.declared.Listed.{Listed}
 use Rattle.listing.specs.declared.Listed.the-variants as listed
-use Rattle.listing.specs.Listed.{countsOfSheet}
+use Rattle.entries.specs.Entries.{countsOfSheet}
 
 -- two lines of claim i: one verdict, but for the bad marking, and one twin
 pub record LineAlike (i : ℕ) (line other : List ℕ) : Type 0 where
@@ -38,11 +38,6 @@ pub record Alike (x : Contents) (text other : List ℕ) : Type 0 where
 -- no transition breaks claim i where start and target leave it to the transitions
 unfoldable pub Unbroken : Contents → ℕ → Type 0
 Unbroken x i = (t : ℕ) (m : Marking) → IsVerdict (x .setting) (halfSpace (claim x i)) (broken t m) → ⊥
-
--- two pages
-abbrev pub PagesAlike : Read Contents → List ℕ → List ℕ → Type 0
-PagesAlike (sound x) text other = Alike x text other
-PagesAlike (refused q) text other = text ≡ other
 
 -- two answers with the areas that they leave: one refusal, or listings that are alike
 pub data AnswersAlike (y : Read Contents) (old new new-too : List ℕ) (r s : Listed) : Type 0 where

@@ -1,8 +1,8 @@
 // The listing of a sheet: document 01, "The listing".
 ghost use mathlib.Core.Path.{_≡_};
 ghost use mathlib.Core.List.{List};
-ghost use Prim.Native.Nat.{ℕ, _+_, _≤_};
-ghost use lib.ListN.{length, take};
+ghost use Prim.Native.Nat.{ℕ, _≤_};
+ghost use lib.ListN.{length};
 ghost use Rattle.format.specs.Read.{sound};
 ghost use Rattle.format.specs.Contents.{Contents};
 ghost use Rattle.format.specs.Reading.{reading};
@@ -10,13 +10,11 @@ ghost use Rattle.sheet.specs.Known.{Known};
 ghost use Rattle.lent.specs.Wiped.{Wiped};
 ghost use Rattle.pairs.specs.Pairs.{areaAfter};
 ghost use Rattle.text.specs.Bytes.{Wrote};
-ghost use Rattle.lines.specs.Lines.{refusalLine};
-ghost use Rattle.listing.specs.Listed.{IsLine, IsListing, IsListed, IsRefusalText, IsPage, Starts, roomCheck, listingCheck};
-use judging::judge_claim;
+ghost use Rattle.entries.specs.Entries.{IsListing};
+ghost use Rattle.listing.specs.Listed.{IsListed, IsRefusalText, roomCheck, listingCheck};
+use entries::all_lines;
 use lent::wipe;
-use lines::claim_line;
-use lines::counts_line;
-use lines::refusal_line;
+use phrases::refusal_page;
 use reader::Counts;
 use reader::Reading;
 use reader::read;
@@ -24,7 +22,6 @@ use terms::Area;
 use terms::Check;
 use terms::Refusal;
 use terms::Text;
-use twins::first_twin;
 
 // How long the text is, or a refusal.
 pub enum Listed {
@@ -43,47 +40,6 @@ fn checked(marks: usize, queue: usize, room: usize) -> Check
         return Check::Refused(Refusal::small_text());
     }
     Check::Fine
-}
-
-// The line of claim i of a sheet that was read.
-fn line(
-    sheet: &[u8],
-    counts: Counts,
-    i: usize,
-    marks: &mut [u8],
-    queue: &mut [u16],
-    text: &mut [u8],
-    at: usize,
-) -> usize
-    requires { ⌜ Known (now sheet) counts × (1 ≤ i) × (i ≤ counts .claims) ⌝ }
-    requires { ⌜ (length (now marks) ≡ 20000) × (length (now queue) ≡ 20000) × (at + 125 ≤ length (now text)) ⌝ }
-    ensures { λ r. ⌜ ((x : Contents) → reading (now (sheet .entry)) ≡ sound x → (bs : List ℕ) × IsLine x i bs × Wrote bs (now (text .entry)) at (now (text .exit)) r) ⌝ }
-    ensures { λ r. ⌜ r ≤ at + 125 ⌝ }
-{
-    let judged = judge_claim(sheet, counts, i, marks, queue);
-    let j = first_twin(sheet, counts, i);
-    claim_line(text, at, i, judged, j, counts.places)
-}
-
-// The line of counts, and each claim's.
-fn all_lines(
-    sheet: &[u8],
-    counts: Counts,
-    marks: &mut [u8],
-    queue: &mut [u16],
-    text: &mut [u8],
-) -> usize
-    requires { ⌜ Known (now sheet) counts ⌝ }
-    requires { ⌜ (length (now marks) ≡ 20000) × (length (now queue) ≡ 20000) × (4096 ≤ length (now text)) ⌝ }
-    ensures { λ r. ⌜ ((x : Contents) → reading (now (sheet .entry)) ≡ sound x → (bs : List ℕ) × IsListing x bs × Wrote bs (now (text .entry)) 0 (now (text .exit)) r) ⌝ }
-{
-    let mut end = counts_line(text, 0, counts);
-    let mut i = 0;
-    while i < counts.claims {
-        i += 1;
-        end = line(sheet, counts, i, marks, queue, text, end);
-    }
-    end
 }
 
 // The same in areas that may be longer, and that are wiped afterwards.
@@ -128,16 +84,6 @@ pub fn listing_of(sheet: &[u8], marks: &mut [u8], queue: &mut [u16], text: &mut 
     Listed::Written(end)
 }
 
-// The line of a refusal, at the start of a text that is long enough.
-fn refusal_page(r: Refusal, text: &mut [u8]) -> usize
-    requires { ⌜ 4096 ≤ length (now text) ⌝ }
-    ensures { λ n. ⌜ Wrote (refusalLine r) (now (text .entry)) 0 (now (text .exit)) n ⌝ }
-{
-    let number = r.number;
-    let detail = r.value();
-    refusal_line(text, 0, number, detail)
-}
-
 // The line of a refusal, at the start of the text.
 pub fn refusal_text(r: Refusal, text: &mut [u8]) -> Listed
     ensures { λ e. ⌜ IsRefusalText r (now (text .entry)) (now (text .exit)) e ⌝ }
@@ -147,18 +93,4 @@ pub fn refusal_text(r: Refusal, text: &mut [u8]) -> Listed
     }
     let end = refusal_page(r, text);
     Listed::Written(end)
-}
-
-// What a program prints of a sheet, at the start of the text: the listing, or the line of the refusal.
-pub fn page(sheet: &[u8], marks: &mut [u8], queue: &mut [u16], text: &mut [u8]) -> usize
-    requires { ⌜ (20000 ≤ length (now marks)) × (20000 ≤ length (now queue)) × (4096 ≤ length (now text)) ⌝ }
-    ensures { λ n. ⌜ IsPage (reading (now (sheet .entry))) (take n (now (text .exit))) ⌝ }
-    ensures { λ n. ⌜ Starts n (now (text .entry)) (now (text .exit)) ⌝ }
-    ensures { λ _. ⌜ now (marks .exit) ≡ areaAfter (listingCheck (reading (now (sheet .entry))) (length (now (marks .entry))) (length (now (queue .entry))) (length (now (text .entry)))) (now (marks .entry)) ⌝ }
-    ensures { λ _. ⌜ now (queue .exit) ≡ areaAfter (listingCheck (reading (now (sheet .entry))) (length (now (marks .entry))) (length (now (queue .entry))) (length (now (text .entry)))) (now (queue .entry)) ⌝ }
-{
-    match listing_of(sheet, marks, queue, text) {
-        Listed::Written(n) => n,
-        Listed::Refused(r) => refusal_page(r, text),
-    }
 }

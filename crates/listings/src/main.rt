@@ -2,7 +2,7 @@
 // judge lists it, with a line of a dot behind it.
 ghost use Prim.Native.Nat.{_≤_};
 ghost use lib.ListN.{length};
-use listing::page;
+use page::page;
 use rows::two_bytes;
 use terms::Area;
 

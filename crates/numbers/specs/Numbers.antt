@@ -15,9 +15,9 @@ use Rattle.sheet.specs.declared.HalfSpace.{HalfSpace}
 use Rattle.pairs.specs.declared.Answer as pairs
 use Rattle.pairs.specs.declared.Answer.the-variants as pair-answers
 use Rattle.pairs.specs.declared.Pair.{Pair}
-use Rattle.judging.specs.declared.Answer as verdicts
-use Rattle.judging.specs.declared.Answer.the-variants as verdict-answers
-use Rattle.judging.specs.declared.Judged.{Judged}
+use Rattle.judged.specs.declared.Answer as verdicts
+use Rattle.judged.specs.declared.Answer.the-variants as verdict-answers
+use Rattle.judged.specs.declared.Judged.{Judged}
 use Rattle.twins.specs.declared.Reduced.{Reduced}
 use Rattle.twins.specs.declared.Twin.{Twin}
 use Rattle.twins.specs.declared.Twin.the-variants as twin-answers

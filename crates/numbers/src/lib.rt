@@ -137,15 +137,15 @@ impl Refused {
         }
     }
 
-    pub fn of_verdict(a: judging::Answer) -> Refused
+    pub fn of_verdict(a: judged::Answer) -> Refused
         ensures { λ x. ⌜ x ≡ verdictRefusal a ⌝ }
     {
         match a {
-            judging::Answer::StartOutside => Refused::nothing(),
-            judging::Answer::TargetInside => Refused::nothing(),
-            judging::Answer::Broken(_) => Refused::nothing(),
-            judging::Answer::Proof => Refused::nothing(),
-            judging::Answer::Refused(r) => Refused::by(r),
+            judged::Answer::StartOutside => Refused::nothing(),
+            judged::Answer::TargetInside => Refused::nothing(),
+            judged::Answer::Broken(_) => Refused::nothing(),
+            judged::Answer::Proof => Refused::nothing(),
+            judged::Answer::Refused(r) => Refused::by(r),
         }
     }
 }
@@ -189,27 +189,27 @@ pub fn pair_number(a: pairs::Answer) -> u8
     }
 }
 
-pub fn verdict_number(a: judging::Answer) -> u8
+pub fn verdict_number(a: judged::Answer) -> u8
     ensures { λ x. ⌜ x ≡ verdictNumber a ⌝ }
 {
     match a {
-        judging::Answer::Refused(_) => 0,
-        judging::Answer::StartOutside => 1,
-        judging::Answer::TargetInside => 2,
-        judging::Answer::Broken(_) => 3,
-        judging::Answer::Proof => 4,
+        judged::Answer::Refused(_) => 0,
+        judged::Answer::StartOutside => 1,
+        judged::Answer::TargetInside => 2,
+        judged::Answer::Broken(_) => 3,
+        judged::Answer::Proof => 4,
     }
 }
 
-pub fn verdict_transition(a: judging::Answer) -> usize
+pub fn verdict_transition(a: judged::Answer) -> usize
     ensures { λ x. ⌜ x ≡ verdictTransition a ⌝ }
 {
     match a {
-        judging::Answer::StartOutside => 0,
-        judging::Answer::TargetInside => 0,
-        judging::Answer::Broken(t) => t.0,
-        judging::Answer::Proof => 0,
-        judging::Answer::Refused(_) => 0,
+        judged::Answer::StartOutside => 0,
+        judged::Answer::TargetInside => 0,
+        judged::Answer::Broken(t) => t.0,
+        judged::Answer::Proof => 0,
+        judged::Answer::Refused(_) => 0,
     }
 }
 

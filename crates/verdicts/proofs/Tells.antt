@@ -17,9 +17,9 @@ use Rattle.format.specs.Reading.{reading}
 use Rattle.reader.specs.Answers.{countsOf}
 use Rattle.terms.specs.declared.Check.{Check}
 use Rattle.terms.specs.declared.Check.the-variants.{Fine, Refused}
-use Rattle.judging.specs.declared.Answer.the-variants as answers
-use Rattle.judging.specs.declared.Judged.{Judged}
-use Rattle.judging.specs.Judges.{plainJudged, judgedOf, Judges}
+use Rattle.judged.specs.declared.Answer.the-variants as answers
+use Rattle.judged.specs.declared.Judged.{Judged}
+use Rattle.judged.specs.Judges.{plainJudged, judgedOf, Judges}
 use Rattle.verdicts.specs.Judged.{countedCheck, IsJudgedIn, IsJudged}
 
 answer-of : {r p : Judged} → r ≡ p → r .answer ≡ p .answer

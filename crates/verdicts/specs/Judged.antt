@@ -10,9 +10,9 @@ use Rattle.reader.specs.Answers.{countsOf}
 use Rattle.reader.specs.declared.Counts.{Counts}
 use Rattle.terms.specs.declared.Check.{Check}
 use Rattle.terms.specs.declared.Check.the-variants.{Fine, Refused}
-use Rattle.judging.specs.Judges.{plainJudged, Judges}
-use Rattle.judging.specs.declared.Answer.the-variants as answers
-use Rattle.judging.specs.declared.Judged.{Judged}
+use Rattle.judged.specs.Judges.{plainJudged, Judges}
+use Rattle.judged.specs.declared.Answer.the-variants as answers
+use Rattle.judged.specs.declared.Judged.{Judged}
 
 -- the refusals in their order: the sheet's, then 11, 13
 abbrev pub countedCheck : Counts → Claim → ℕ → ℕ → Check

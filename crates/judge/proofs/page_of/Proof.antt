@@ -6,7 +6,7 @@ use Rattle.format.specs.Read.{Read}
 use Rattle.format.specs.Contents.{Contents}
 use Rattle.format.specs.Reading.{reading}
 use Rattle.format.proofs.Prefix.{first-bytes}
-use Rattle.listing.specs.Listed.{IsPage}
+use Rattle.page.specs.Page.{IsPage}
 use borrow.Author.Needs.{needs}
 use Rattle.judge.proofs.page_of.Statement.{statement}
 use Rattle.judge.proofs.page_of.Tie as tie

@@ -11,7 +11,7 @@ use Rattle.format.proofs.ClaimRecord.{sheet-of}
 use Rattle.sheet.proofs.Known.{same-contents, limits, claim-whole, space-is}
 use Rattle.values.specs.Ready.{space}
 use Rattle.sheet.proofs.Asking.{numbers-fit}
-use Rattle.judging.specs.Judges.{Judges}
+use Rattle.judged.specs.Judges.{Judges}
 use borrow.Author.Needs.{needs}
 use Rattle.judging.proofs.judge_claim.Statement.{statement}
 use Rattle.judging.proofs.judge_claim.Tie as tie

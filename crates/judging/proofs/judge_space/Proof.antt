@@ -21,9 +21,9 @@ use Rattle.crossing.specs.Crosses.{Crosses}
 use Rattle.sheet.proofs.Asking.{ready}
 use Rattle.inside.proofs.Said.{holds, fails}
 use Rattle.lowest.specs.Lowest.{FirstBroken}
-use Rattle.judging.specs.declared.Answer.the-variants as answers
-use Rattle.judging.specs.declared.Judged.{Judged}
-use Rattle.judging.specs.Judges.{Judges}
+use Rattle.judged.specs.declared.Answer.the-variants as answers
+use Rattle.judged.specs.declared.Judged.{Judged}
+use Rattle.judged.specs.Judges.{Judges}
 use Rattle.judging.proofs.Answered.{outside-so, target-so, proof-so, broken-so}
 use borrow.Author.Needs.{needs}
 use Rattle.judging.proofs.judge_space.Statement.{statement}

@@ -9,7 +9,7 @@ use Rattle.terms.specs.Limits.{textSize}
 use Rattle.terms.specs.Refusals.{refusedAt, smallText}
 use Rattle.terms.specs.declared.Refusal.{Refusal}
 use Rattle.format.specs.Read.{choose}
-use Rattle.lines.specs.Lines.{refusedLine}
+use Rattle.phrases.specs.Phrases.{refusedLine}
 use Rattle.listing.specs.Listed.{RefusalWritten, IsRefusalText}
 use Rattle.listing.specs.declared.Listed.{Listed}
 use Rattle.listing.specs.declared.Listed.the-variants as listed

@@ -4,8 +4,9 @@ use native.Mathlib.Omega.{arith}
 use lib.ListN.{take}
 use Rattle.text.specs.Bytes.{chars, decimal}
 use Rattle.text.proofs.Writing.{wrote-then}
-use Rattle.lines.specs.Lines.{newline, answerText, twinText}
-use Rattle.lines.proofs.Texts.{two-digits}
+use Rattle.phrases.specs.Phrases.{newline, twinText}
+use Rattle.lines.specs.Lines.{answerText}
+use Rattle.phrases.proofs.Texts.{two-digits}
 use borrow.Author.Needs.{needs}
 use Rattle.lines.proofs.claim_line.Statement.{statement}
 use Rattle.lines.proofs.claim_line.Tie as tie

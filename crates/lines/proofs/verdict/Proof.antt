@@ -4,9 +4,10 @@ use native.Mathlib.Omega.{arith}
 use lib.ListN.{take}
 use Rattle.text.specs.Bytes.{Wrote}
 use Rattle.text.proofs.Writing.{wrote-then, wrote-nothing}
-use Rattle.judging.specs.declared.Answer.{Answer}
-use Rattle.lines.specs.Lines.{tokensText, answerText, Brief}
-use Rattle.lines.proofs.Texts.{two-digits}
+use Rattle.judged.specs.declared.Answer.{Answer}
+use Rattle.phrases.specs.Phrases.{tokensText}
+use Rattle.lines.specs.Lines.{answerText, Brief}
+use Rattle.phrases.proofs.Texts.{two-digits}
 use borrow.Author.Needs.{needs}
 use Rattle.lines.proofs.verdict.Statement.{statement}
 use Rattle.lines.proofs.verdict.Tie as tie

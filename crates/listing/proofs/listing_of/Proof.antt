@@ -14,7 +14,7 @@ use Rattle.pairs.specs.Pairs.{areaAfter}
 use Rattle.text.proofs.Writing.{length-written, whole}
 use Rattle.listing.specs.declared.Listed.the-variants as listed
 use Rattle.listing.specs.Listed.{IsListed, Lists, roomCheck, listingCheck}
-use Rattle.listing.proofs.Lined.{room-passed}
+use Rattle.listing.proofs.Room.{room-passed}
 use borrow.Author.Needs.{needs}
 use Rattle.listing.proofs.listing_of.Statement.{statement}
 use Rattle.listing.proofs.listing_of.Tie as tie
