@@ -10,7 +10,6 @@ ghost use Rattle.values.specs.Range.{Constants};
 ghost use Rattle.values.specs.Ready.{space};
 ghost use Rattle.sheet.specs.Known.{Known};
 ghost use Rattle.judged.specs.Judges.{Judges};
-
 use crossing::crossing_of;
 use inside::inside_at;
 use inside::target_inside;

@@ -1,7 +1,7 @@
 -- The pair question: demand 2 and document 01, "Half spaces and verdicts", "Numbers that say no".
 use mathlib.Core.Path.{_≡_}
 use mathlib.Core.List.{List, [], _++_}
-use Prim.Native.Nat.{ℕ, _≤_}
+use Prim.Native.Nat.{ℕ}
 use lib.ListN.{drop, replicate}
 use Rattle.terms.specs.Limits.{among, areasFit, areaSize}
 use Rattle.terms.specs.Refusals.{notAClaim, notATransition, smallArea}
@@ -15,7 +15,6 @@ use Rattle.reader.specs.Answers.{countsOf}
 use Rattle.reader.specs.declared.Counts.{Counts}
 use Rattle.terms.specs.declared.Check.{Check}
 use Rattle.terms.specs.declared.Check.the-variants.{Fine, Refused}
-use Rattle.sheet.specs.Known.{Known}
 use Rattle.pairs.specs.declared.Answer.{Answer}
 use Rattle.pairs.specs.declared.Answer.the-variants as answers
 use Rattle.pairs.specs.declared.Pair.{Pair}
@@ -50,14 +49,6 @@ IsPairIn (Refused q) x i t r = r ≡ plainPair (answers.Refused q)
 abbrev pub IsPair : Read Contents → Claim → Transition → ℕ → ℕ → Pair → Type 0
 IsPair (refused q) i t marks queue r = r ≡ plainPair (answers.Refused q)
 IsPair (sound x) i t marks queue r = IsPairIn (countedCheck (countsOf x) i t marks queue) x i t r
-
--- what the inner question asks: a sheet that was read, and numbers that are there
-pub record Asked (s : List ℕ) (k : Counts) (i t : ℕ) : Type 0 where
-  pub known : Known s k
-  pub some-claim : 1 ≤ i
-  pub most-claims : i ≤ k .claims
-  pub some-transition : 1 ≤ t
-  pub most-transitions : t ≤ k .transitions
 
 -- a work area afterwards: its first 20,000 entries zero and the rest untouched; after a refusal all as before
 abbrev pub areaAfter : Check → List ℕ → List ℕ

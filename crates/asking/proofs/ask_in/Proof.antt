@@ -15,8 +15,8 @@ use Rattle.values.specs.Ready.{space}
 use Rattle.crossing.specs.Crosses.{Crosses}
 use Rattle.sheet.proofs.Asking.{numbers-fit, ready}
 use borrow.Author.Needs.{needs}
-use Rattle.pairs.proofs.ask_in.Statement.{statement}
-use Rattle.pairs.proofs.ask_in.Tie as tie
+use Rattle.asking.proofs.ask_in.Statement.{statement}
+use Rattle.asking.proofs.ask_in.Tie as tie
 
 -- the half space that is handed on is the claim's
 space-so : (c : tie.After-struct-told) → space (take (c .before .before .before .before .before .before .before .before .before .before .args .counts .places) (c .before .before .before .before .before .numbers-at .result .coefficients)) (toZ w16 (ofZ w16 (c .before .before .before .before .before .numbers-at .result .constant))) ≡ halfSpace (claim (c .before .before .before .before .before .before .before .before .before .before .pre .0 .known .contents) (c .before .before .before .before .before .before .before .before .before .before .args .i))

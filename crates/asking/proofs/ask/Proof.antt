@@ -5,9 +5,9 @@ use Prim.Native.Nat.{ℕ, _≤_}
 use lib.ListN.{length, take, drop}
 use lib.Seq.{length-take-le}
 use Rattle.lent.proofs.Lent.{lent-length, lent-enough, lent-wiped}
-use Rattle.pairs.specs.Pairs.{Asked}
-use Rattle.pairs.proofs.ask.Statement.{statement}
-use Rattle.pairs.proofs.ask.Tie as tie
+use Rattle.asking.specs.Asked.{Asked}
+use Rattle.asking.proofs.ask.Statement.{statement}
+use Rattle.asking.proofs.ask.Tie as tie
 
 -- both parts have 20,000 entries
 marks-long : (c : tie.Start) → length (take 20000 (c .args .marks .now)) ≡ 20000
