@@ -7,7 +7,7 @@ use native.Mathlib.Omega.{arith}
 use Rattle.nets.specs.Nets.{transition}
 use Rattle.nets.specs.HalfSpaces.{HalfSpace, Inside, Outside, Kept, Broken}
 use Rattle.nets.specs.Verdicts.{Setting, TargetInside, Separates, start-outside, target-inside, broken, proof, IsVerdict}
-use Rattle.residues.specs.Told.{Says}
+use Rattle.tables.specs.Told.{Says}
 use Rattle.crossing.specs.Crosses.{Crosses}
 use Rattle.judging.specs.declared.Answer.the-variants as answers
 use Rattle.judging.specs.Judges.{plainJudged, Judges, FirstBroken}
