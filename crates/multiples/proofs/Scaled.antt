@@ -2,7 +2,7 @@
 use mathlib.Core.Path.{_≡_, refl, sym, ap, ap₂, _∙_, subst}
 use mathlib.Core.Logic.{inl, inr}
 use mathlib.Core.Bool.{Bool, true, false}
-use mathlib.Core.List.{List, [], _∷_, _++_, map, map-append}
+use mathlib.Core.List.{List, [], _∷_, _++_, map-append}
 use Prim.Native.Nat.{ℕ, zero, suc, _*_, _/_, _∣_, _≤_}
 use native.Mathlib.Nat.{le-of-dvd, mul-div-cancel', mul-div-cancel-left, le-of-mul-le-mul-right, mul-le-mul-right}
 use native.Mathlib.Omega.{arith}
@@ -12,9 +12,9 @@ use Rattle.signed.specs.Linear.{linear, mul-mul}
 use Rattle.nets.specs.HalfSpaces.{HalfSpace}
 use Rattle.nets.specs.Reduced.{EachOf, Divides, IsDivisor, divided-by, AllZero, IsReduced, Twins}
 use Rattle.nets.proofs.ReducedForm.{divisor-above-zero, same-factor, twins-of-one}
-use Rattle.multiples.specs.Multiples.{IsTimes, IsMultiple, IsPivot, Tells, entry, factorOf}
 use Rattle.reduction.proofs.Common.{abs-times, each-so, some-common, zero-divides, each-left, each-right}
 use Rattle.reduction.proofs.Scaled.{times, times-one}
+use Rattle.multiples.specs.Multiples.{IsTimes, IsMultiple, IsPivot, Tells, entry, factorOf}
 
 abbrev pub IsZero : ℤ → Type 0
 IsZero z = z ≡ pos 0

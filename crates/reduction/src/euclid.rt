@@ -13,7 +13,7 @@ pub fn wide(z: i8) -> i16
     z as i16
 }
 
-pub fn gcd(a: u32, b: u32) -> u32
+fn gcd(a: u32, b: u32) -> u32
     ensures { λ r. ⌜ IsGcd a b r ⌝ }
 {
     if b == 0 { a } else { gcd(b, a % b) }
@@ -33,7 +33,7 @@ fn row_divisor(k: [i8; Place::MOST], n: usize) -> u32
 }
 
 // The divisor of a claim: of its coefficients, then of that and the constant; 0 where all are zero.
-pub fn divisor(k: [i8; Place::MOST], n: usize, c: i16) -> u32
+pub(crate) fn divisor(k: [i8; Place::MOST], n: usize, c: i16) -> u32
     requires { ⌜ n ≤ 16 ⌝ }
     ensures { λ r. ⌜ IsDivisorOf (spaceOf n k c) r × (r ≤ 32768) ⌝ }
 {

@@ -4,11 +4,10 @@ use mathlib.Core.Logic.{_⊎_, inl, inr}
 use mathlib.Core.Bool.{Bool, true, false}
 use mathlib.Core.List.{List, [], _∷_, map}
 use Prim.Native.Nat.{ℕ, zero, suc, _+_, _*_, _≤_, _<_}
-use native.Mathlib.Numerals.{add-one}
 use native.Mathlib.Omega.{arith}
 use lib.IntN.{ℤ, pos}
-use lib.ListN.{length, getD, set, take, drop, replicate, length-set, length-replicate, List·getD-map, drop-of-length-le}
-use lib.Seq.{drop-cons, getD-take, length-take-le}
+use lib.ListN.{length, getD, take, replicate, length-set, length-replicate, List·getD-map}
+use lib.Seq.{getD-take, length-take-le}
 use Rattle.signed.specs.Parts.{P, N, eq-out}
 use Rattle.nets.specs.HalfSpaces.{value}
 use Rattle.sums.specs.Sum.{total, dot, ups, downs}

@@ -7,8 +7,8 @@ ghost use Rattle.spreading.specs.State.{Sizes, Entry};
 ghost use Rattle.trails.specs.Led.{Trailed, Room, Leads};
 use spreading::Reached;
 use spreading::reach;
-use terms::wide16;
 use terms::wide8;
+use terms::wide16;
 
 // The position from which a step of k leads to w.
 fn former(w: usize, k: i8) -> usize

@@ -11,7 +11,6 @@ ghost use Rattle.format.specs.Reading.{reading};
 ghost use Rattle.sheet.specs.Known.{Known};
 ghost use Rattle.reduction.specs.Divisors.{spaceOf};
 ghost use Rattle.twins.specs.Answers.{noForm, IsReducedOf, IsTwinNumber, IsTwinOf};
-
 use layout::behind_claims;
 use multiples::is_multiple;
 use multiples::pivot_of;
