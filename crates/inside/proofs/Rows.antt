@@ -10,7 +10,7 @@ use lib.Signed.{_≤ℤ_, leZ}
 use Rattle.signed.specs.Parts.{bounds, le-true, le-false}
 use Rattle.signed.specs.Linear.{linear}
 use Rattle.nets.specs.HalfSpaces.{HalfSpace, value, Inside}
-use Rattle.residues.specs.Told.{Says}
+use Rattle.tables.specs.Told.{Says}
 
 value-zeros : (k : List ℤ) (m : ℕ) → value k (replicate m 0) ≡ pos 0
 unfolding value

@@ -3,7 +3,7 @@ use mathlib.Core.Path.{_≡_}
 use mathlib.Core.Bool.{Bool, true, false}
 use Prim.Native.Nat.{ℕ}
 use native.Mathlib.Omega.{arith}
-use Rattle.residues.specs.Told.{Says}
+use Rattle.tables.specs.Told.{Says}
 
 -- Q is said to hold, or not to hold
 pub holds : {Q : Type 0} (t : Bool) → t ≡ true → Says t Q → Q

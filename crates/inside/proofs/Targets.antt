@@ -13,7 +13,7 @@ use Rattle.nets.proofs.Theorem7.{theorem-7, theorem-7-exact}
 use Rattle.format.specs.Read.{choose}
 use Rattle.format.specs.Reading.{byte, words, targetIn}
 use Rattle.rows.proofs.Filled.{length-words}
-use Rattle.residues.specs.Told.{Says}
+use Rattle.tables.specs.Told.{Says}
 
 -- the written target is a target marking of either kind
 written : (g : Target) → IsTarget g (g .tokens)

@@ -13,7 +13,7 @@ use Rattle.signed.specs.Parts.{abs-parts, apart}
 use Rattle.nets.specs.Nets.{Net, IsTransition, transition}
 use Rattle.nets.specs.HalfSpaces.{HalfSpace, Kept, Broken}
 use Rattle.format.specs.Formed.{All, IsCoefficient}
-use Rattle.residues.specs.Sums.{sizes, Within}
+use Rattle.remainders.specs.Sums.{sizes, Within}
 use Rattle.values.proofs.Bounds.{coefficient-range}
 use Rattle.lowest.specs.Lowest.{FirstBroken}
 

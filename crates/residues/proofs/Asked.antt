@@ -13,8 +13,9 @@ use Rattle.nets.specs.HalfSpaces.{HalfSpace, Kept, Broken}
 use Rattle.nets.specs.Verdicts.{SomeAbove, SomeBelow}
 use Rattle.nets.proofs.Theorem1.{theorem-1, kept-exactly}
 use Rattle.nets.proofs.Theorem3.{theorem-3}
-use Rattle.residues.specs.Sums.{sizes}
-use Rattle.residues.specs.Told.{Says, SomeIn, IsBroken, Moves, Limits}
+use Rattle.remainders.specs.Sums.{sizes}
+use Rattle.tables.specs.Told.{Says}
+use Rattle.residues.specs.Asked.{SomeIn, IsBroken, Moves, Limits}
 use Rattle.residues.proofs.Turned.{turn, AllTurned, none-below, none-above, sum-of, vector-of}
 
 module _ (ks : List ℤ) (c a b : ℤ) (t : Transition) (m : Moves ks a b t) where

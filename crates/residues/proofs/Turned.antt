@@ -5,16 +5,11 @@ use mathlib.Core.List.{List, [], _∷_}
 use Prim.Native.Nat.{ℕ, zero, suc, _+_, _*_}
 use native.Mathlib.Omega.{arith}
 use lib.IntN.{ℤ, pos, negsuc, natAbs, negℤ, _+ℤ_, _*ℤ_}
-use lib.ListN.{length, getD, List·getD-map}
+use lib.ListN.{length}
 use Rattle.signed.specs.Linear.{linear}
-use Rattle.signed.specs.Parts.{lt-in, abs-parts}
 use Rattle.nets.specs.HalfSpaces.{value}
 use Rattle.nets.specs.Verdicts.{SomeAbove, SomeBelow}
-use Rattle.residues.specs.Sums.{sizes, Reached}
-use Rattle.residues.specs.Steps.{NotAll0}
-use Rattle.residues.specs.Told.{IsSort, hasTable}
-use Rattle.residues.specs.declared.Sort.{Sort}
-use Rattle.residues.specs.declared.Sort.the-variants.{Still, Rising, Falling, Mixed}
+use Rattle.remainders.specs.Sums.{sizes, Reached}
 
 -- v with a sign
 abbrev pub turn : Bool → ℕ → ℤ
@@ -81,11 +76,3 @@ vector-of false [] v t e = record { x = []; places = refl; is = ap (λ (w : ℕ)
 vector-of s (k ∷ ks) v t (x, w, r, e) =
     let y = vector-of s ks w (t .1) r in
     record { x = x ∷ y .x; places = ap suc (y .places); is = head-is s k x (value ks (y .x)) w (t .0) (y .is) ∙ ap (turn s) (sym e) }
-
--- with one sign, some size is not 0
-pub some-size : (ks : List ℤ) (s : Sort) → IsSort ks s → hasTable s ≡ true → NotAll0 (sizes ks)
-unfolding SomeAbove SomeBelow NotAll0
-some-size ks Still i e = let z : _≡_ {A = ℕ} 0 1 = cc in absurd (omega arith)
-some-size ks Rising i e = let w = i .0 in (w .0, omega (arith, List·getD-map natAbs ks (w .0) (pos 0), lt-in (w .2), abs-parts (getD ks (w .0) (pos 0))))
-some-size ks Falling i e = let w = i .1 in (w .0, omega (arith, List·getD-map natAbs ks (w .0) (pos 0), lt-in (w .2), abs-parts (getD ks (w .0) (pos 0))))
-some-size ks Mixed i e = let z : _≡_ {A = ℕ} 0 1 = cc in absurd (omega arith)

@@ -1,3 +1,1 @@
-pub mod Sums
-pub mod Steps
-pub mod Told
+pub mod Asked

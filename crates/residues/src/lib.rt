@@ -1,64 +1,19 @@
-// What depends on a claim's coefficients alone: made once for a claim, and asked by every transition.
+// Whether a transition breaks a half space, asked of what is told of the claim's coefficients.
 // With coefficients of one sign a transition asks whether some vector's value lies in a window, and a table of remainders answers that.
 ghost use mathlib.Core.Path.{_≡_};
 ghost use mathlib.Core.List.{List};
-ghost use Prim.Native.Nat.{ℕ, _≤_};
-ghost use lib.ListN.{length, take};
+ghost use Prim.Native.Nat.{ℕ};
 ghost use lib.IntN.{ℤ, pos};
 ghost use lib.Signed.{_≤ℤ_};
 ghost use Rattle.signed.specs.Parts.{P};
 ghost use Rattle.nets.specs.Nets.{Transition};
-ghost use Rattle.residues.specs.Sums.{sizes, Within, Exact};
-ghost use Rattle.residues.specs.Told.{Says, hasTable, Told, Usable, SomeIn, IsBroken, Moves, Limits};
-
-pub mod signs; // signs.rt: which signs the coefficients have, and their smallest size
-mod table; // table.rt: the table of remainders
-
-use signs::smallest;
-use signs::sort_of;
-use table::after;
-use table::fill;
-use terms::Place;
+ghost use Rattle.remainders.specs.Sums.{Exact};
+ghost use Rattle.tables.specs.Told.{Says, Told, Usable};
+ghost use Rattle.residues.specs.Asked.{SomeIn, IsBroken, Moves, Limits};
+use remainders::after;
+use tables::Reach;
+use tables::Sort;
 use terms::wide16;
-
-// All coefficients are zero; some are above zero and none below; some below and none above; both.
-pub enum Sort {
-    Still,
-    Rising,
-    Falling,
-    Mixed,
-}
-
-// The first `least` entries of the table count.
-pub struct Reach {
-    pub sort: Sort,
-    pub least: usize,
-}
-
-fn one_sign(sort: Sort) -> bool
-    ensures { λ r. ⌜ r ≡ hasTable sort ⌝ }
-{
-    match sort {
-        Sort::Still => false,
-        Sort::Rising => true,
-        Sort::Falling => true,
-        Sort::Mixed => false,
-    }
-}
-
-// The first n of k count. There is a table only where the coefficients have one sign.
-pub fn table_of(k: [i8; Place::MOST], n: usize, table: &mut [u16]) -> Reach
-    requires { ⌜ (n ≤ 16) × (100 ≤ length (now table)) × Within (sizes (take n k)) ⌝ }
-    ensures { λ r. ⌜ Told (take n k) r (now (table .exit)) ⌝ }
-{
-    let sort = sort_of(&k[..n]);
-    if one_sign(sort) {
-        let least = smallest(&k[..n]);
-        fill(&k[..n], &mut table[..least]);
-        return Reach { sort, least };
-    }
-    Reach { sort, least: 1 }
-}
 
 // lo, but 0 where that is below zero.
 fn raised(lo: i32) -> usize

@@ -1,9 +1,4 @@
-pub mod Theory
-pub mod Queue
-pub mod Backward
-pub mod Answer
 pub mod Places
 pub mod Tied
 pub mod Rows
-pub mod Keeping
 pub mod Compact

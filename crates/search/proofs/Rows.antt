@@ -8,9 +8,10 @@ use lib.IntN.{ℤ}
 use lib.ListN.{length, take, drop, replicate}
 use lib.Seq.{take-at}
 use Rattle.nets.specs.HalfSpaces.{sixteen}
-use Rattle.search.specs.Searched.{total, Answer}
+use Rattle.sums.specs.Sum.{total}
+use Rattle.sums.proofs.Sums.{part}
+use Rattle.search.specs.Searched.{Answer}
 use Rattle.search.specs.Table.{Looked}
-use Rattle.search.proofs.Backward.{part}
 
 abbrev zs : ℕ → List ℕ
 zs n = replicate n 0

@@ -9,9 +9,10 @@ use lib.ListN.{length}
 use lib.Signed.{_<ℤ_}
 use Rattle.signed.specs.Parts.{P, N, add-parts, P-mul, N-mul, le-in, le-out, lt-in}
 use Rattle.nets.specs.HalfSpaces.{value}
+use Rattle.sums.specs.Sum.{dot, ups, downs, Hits}
+use Rattle.trails.specs.Led.{Leads}
 use Rattle.search.specs.Searched.{Hit}
-use Rattle.search.specs.Sum.{dot, ups, downs, Hits}
-use Rattle.search.specs.Table.{Placed, Leads, Looked}
+use Rattle.search.specs.Table.{Placed, Looked}
 use Rattle.search.specs.declared.table.Table.{Table}
 
 pub tied : (ks : List ℤ) (x : List ℕ) → P (value ks x) + dot (downs ks) x ≡ dot (ups ks) x + N (value ks x)

@@ -1,5 +1,3 @@
 pub mod Searched
-pub mod Sum
-pub mod State
 pub mod Table
 pub mod Row

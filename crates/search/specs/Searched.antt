@@ -1,18 +1,14 @@
 -- What `find` answers: is there an x of whole numbers, zero or more, with lo ≤ k(0) x(0) + k(1) x(1) + .. ≤ hi, and which has the least total?
 use mathlib.Core.Path.{_≡_}
 use mathlib.Core.Bool.{Bool, true, false}
-use mathlib.Core.List.{List, [], _∷_}
-use Prim.Native.Nat.{ℕ, _+_, _≤_}
+use mathlib.Core.List.{List, []}
+use Prim.Native.Nat.{ℕ, _≤_}
 use lib.ListN.{length, getD, take}
 use lib.IntN.{ℤ, pos, negsuc}
 use lib.Signed.{_≤ℤ_}
 use Rattle.nets.specs.HalfSpaces.{value, sixteen}
+use Rattle.sums.specs.Sum.{total}
 use Rattle.search.specs.declared.Found.{Found}
-
--- x(0) + x(1) + ..
-unfoldable pub total : List ℕ → ℕ
-total [] = 0
-total (x ∷ xs) = x + total xs
 
 -- x has a number for each coefficient, and the value lies in the window
 pub record Hit (ks : List ℤ) (lo hi : ℤ) (x : List ℕ) : Type 0 where

@@ -7,15 +7,9 @@ use lib.ListN.{length, getD, replicate}
 use lib.IntN.{ℤ, pos}
 use lib.Signed.{_≤ℤ_}
 use Rattle.signed.specs.Parts.{P, N}
-use Rattle.search.specs.Searched.{total, Hit}
-use Rattle.search.specs.Sum.{ups, downs, Hits}
+use Rattle.sums.specs.Sum.{total}
+use Rattle.search.specs.Searched.{Hit}
 use Rattle.search.specs.declared.table.Table.{Table}
-
--- the table has room for the start, and for each step towards the window lo .. hi
-pub record Room (ks : List ℤ) (size start lo hi : ℕ) : Type 0 where
-  pub begin : start < size
-  pub rise : (p : ℕ) → lo + P (getD ks p (pos 0)) ≤ size
-  pub fall : (p : ℕ) → N (getD ks p (pos 0)) ≤ hi + 1
 
 -- r is the larger of a and b
 pub record Larger (a b r : ℤ) : Type 0 where
@@ -43,17 +37,7 @@ pub record Placed (lo hi m : ℤ) (t : Table) : Type 0 where
   pub fall : P m ≤ t .hi
   pub fits : t .size ≤ 19900
 
--- what `search` leaves: true: x leads into the window, with the least total, below the number of positions; false: nothing does, and x is zeros
-pub record Led (ks : List ℤ) (size start lo hi : ℕ) (x : List ℕ) : Type 0 where
-  pub hits : Hits (ups ks) (downs ks) lo hi start x
-  pub least : (y : List ℕ) → Hits (ups ks) (downs ks) lo hi start y → total x ≤ total y
-  pub bound : total x < size
-
-abbrev pub Leads : List ℤ → ℕ → ℕ → ℕ → ℕ → List ℕ → Bool → Type 0
-Leads ks size start lo hi x true = Led ks size start lo hi x
-Leads ks size start lo hi x false = ((y : List ℕ) → Hits (ups ks) (downs ks) lo hi start y → ⊥) × (x ≡ replicate (length ks) 0)
-
--- what `look` leaves: the same of the window lo .. hi of whole numbers
+-- what `look` leaves: true: x hits the window lo .. hi of whole numbers, with the least total; false: nothing does, and x is zeros
 pub record Least (ks : List ℤ) (lo hi : ℤ) (x : List ℕ) : Type 0 where
   pub hits : Hit ks lo hi x
   pub least : (z : List ℕ) → Hit ks lo hi z → total x ≤ total z

@@ -4,22 +4,20 @@
 ghost use mathlib.Core.Path.{_≡_};
 ghost use Prim.Native.Nat.{_≤_};
 ghost use lib.ListN.{length, take, replicate};
+ghost use Rattle.distinct.specs.Row.{Inside};
 ghost use Rattle.search.specs.Searched.{Searched, Ends};
 ghost use Rattle.search.specs.Table.{Looked};
-ghost use Rattle.search.specs.Row.{Inside, Over};
+ghost use Rattle.search.specs.Row.{Over};
 
-mod back; // back.rt: the counts that lead to an entry of the queue
-mod distinct; // distinct.rt: each coefficient once, and counts put back at their places
-mod steps; // steps.rt: the search itself
 mod table; // table.rt: where the table puts 0 and the window
 
-use back::search;
 use distinct::distinct;
 use distinct::spread;
 use lent::clear8;
 use table::longest;
 use table::placed;
 use terms::Place;
+use trails::search;
 
 pub struct Found {
     pub hit: bool,

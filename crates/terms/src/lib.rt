@@ -185,6 +185,13 @@ pub fn wide(x: u8) -> u16
     x as u16
 }
 
+// A byte, as wide as a position.
+pub fn wide8(x: u8) -> usize
+    ensures { λ r. ⌜ r ≡ x ⌝ }
+{
+    x as usize
+}
+
 // A number of tokens, as wide as a position.
 pub fn wide16(x: u16) -> usize
     ensures { λ r. ⌜ r ≡ x ⌝ }

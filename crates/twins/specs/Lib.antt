@@ -1,3 +1,1 @@
-pub mod Divisors
-pub mod Multiples
 pub mod Answers

@@ -9,13 +9,8 @@ ghost use Rattle.format.specs.Read.{sound};
 ghost use Rattle.format.specs.Contents.{Contents, halfSpace, claim};
 ghost use Rattle.format.specs.Reading.{reading};
 ghost use Rattle.sheet.specs.Known.{Known};
-ghost use Rattle.twins.specs.Divisors.{spaceOf};
+ghost use Rattle.reduction.specs.Divisors.{spaceOf};
 ghost use Rattle.twins.specs.Answers.{noForm, IsReducedOf, IsTwinNumber, IsTwinOf};
-
-mod euclid; // euclid.rt: greatest common divisors
-mod multiples; // multiples.rt: a claim that is a number of times a form
-mod reduction; // reduction.rt: the reduced form, as numbers
-
 use layout::behind_claims;
 use multiples::is_multiple;
 use multiples::pivot_of;

@@ -15,7 +15,7 @@ use Rattle.format.specs.Read.{sound}
 use Rattle.format.specs.Reading.{transitionIn, reading}
 use Rattle.format.proofs.ClaimRecord.{sheet-of}
 use Rattle.sheet.proofs.Known.{same-contents, limits, transition-is, start-whole, start-is, target-whole, target-is, transitions-count}
-use Rattle.residues.specs.Told.{Says}
+use Rattle.tables.specs.Told.{Says}
 use Rattle.values.specs.Ready.{space}
 use Rattle.crossing.specs.Crosses.{Crosses}
 use Rattle.sheet.proofs.Asking.{ready}

@@ -13,7 +13,7 @@ use Rattle.format.specs.Contents.{Contents}
 use Rattle.format.specs.Reading.{reading, transitionIn, transitionsFrom, transitionSize}
 use Rattle.format.proofs.ClaimRecord.{sheet-of}
 use Rattle.sheet.proofs.Known.{same-contents, limits, transition-is, transitions-count}
-use Rattle.residues.specs.Told.{IsBroken}
+use Rattle.residues.specs.Asked.{IsBroken}
 use Rattle.values.specs.Ready.{space}
 use Rattle.sheet.proofs.Asking.{ready}
 use Rattle.lowest.specs.Lowest.{FirstBroken}

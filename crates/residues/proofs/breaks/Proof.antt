@@ -7,9 +7,9 @@ use mir.Facts.{toZ-ofZ, sfits-widen}
 use borrow.Author.Needs.{needs}
 use Rattle.signed.specs.Linear.{linear}
 use Rattle.signed.specs.Parts.{bounds, le-true, le-false}
-use Rattle.residues.specs.Sums.{sizes, Exact}
-use Rattle.residues.specs.Told.{IsSort, hasTable, IfTabled}
-use Rattle.residues.specs.declared.Sort.{Sort}
+use Rattle.remainders.specs.Sums.{sizes, Exact}
+use Rattle.tables.specs.Told.{IsSort, hasTable, IfTabled}
+use Rattle.tables.specs.declared.Sort.{Sort}
 use Rattle.residues.proofs.Asked.{not-falling, still, both-signs, rising, falling}
 use Rattle.residues.proofs.breaks.Statement.{statement}
 use Rattle.residues.proofs.breaks.Tie as tie

@@ -9,8 +9,9 @@ use lib.Seq.{length-take-le, take-append-le}
 use mir.Syntax.{w8}
 use mir.Facts.{toZ-ofZ}
 use borrow.Kind.Array.{eSInt, good-length}
+use Rattle.distinct.specs.Row.{Kept, Inside}
 use Rattle.search.specs.Searched.{Answer}
-use Rattle.search.specs.Row.{Kept, Inside, Over}
+use Rattle.search.specs.Row.{Over}
 use Rattle.search.proofs.Rows.{zeros-take, zeros-drop, answered}
 use Rattle.search.proofs.Compact.{inside, whole}
 use borrow.Author.Needs.{needs}

@@ -6,9 +6,9 @@ use native.Mathlib.Omega.{arith}
 use lib.ListN.{length, take, drop, replicate, length-replicate, length-append}
 use lib.Seq.{take-at}
 use mir.Facts.{toZ-ofZ}
-use Rattle.search.specs.Searched.{total}
+use Rattle.sums.specs.Sum.{total}
+use Rattle.distinct.specs.Row.{Spread}
 use Rattle.search.specs.Table.{Looked}
-use Rattle.search.specs.Row.{Spread}
 use Rattle.search.proofs.Rows.{zeros-take}
 use Rattle.search.proofs.Compact.{within}
 use borrow.Author.Needs.{needs}

@@ -12,10 +12,10 @@ use Rattle.nets.specs.Reduced.{Twins}
 use Rattle.format.specs.Read.{sound}
 use Rattle.format.specs.Contents.{Contents, halfSpace, claim}
 use Rattle.format.specs.Reading.{reading, claimIn}
-use Rattle.twins.specs.Divisors.{spaceOf}
-use Rattle.twins.specs.Multiples.{Tells, IsMultiple, IsPivot}
+use Rattle.reduction.specs.Divisors.{spaceOf}
+use Rattle.multiples.specs.Multiples.{Tells, IsMultiple, IsPivot}
 use Rattle.twins.specs.Answers.{NoTwinBefore}
-use Rattle.twins.proofs.Scaled.{told-twins}
+use Rattle.multiples.proofs.Scaled.{told-twins}
 use Rattle.sheet.proofs.Known.{same-contents, limits, claim-whole, claim-is}
 use Rattle.twins.proofs.Earlier.{no-twin-more, no-twin-yet, twin-number}
 use borrow.Author.Needs.{needs}

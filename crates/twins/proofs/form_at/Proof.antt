@@ -8,7 +8,7 @@ use Rattle.nets.specs.HalfSpaces.{HalfSpace}
 use Rattle.nets.specs.Reduced.{IsReduced}
 use Rattle.format.specs.Contents.{Contents, halfSpace, claim}
 use Rattle.sheet.proofs.Known.{same-contents, limits, claim-whole, space-is}
-use Rattle.twins.specs.Divisors.{spaceOf}
+use Rattle.reduction.specs.Divisors.{spaceOf}
 use borrow.Author.Needs.{needs}
 use Rattle.twins.proofs.form_at.Statement.{statement}
 use Rattle.twins.proofs.form_at.Tie as tie

@@ -22,7 +22,7 @@ use mir.Syntax.{w16}
 use mir.Val.{SFits, toZ, ofZ}
 use mir.Facts.{toZ-ofZ}
 use Rattle.twins.specs.declared.Reduced.{Reduced}
-use Rattle.twins.specs.Divisors.{spaceOf}
+use Rattle.reduction.specs.Divisors.{spaceOf}
 use Rattle.twins.specs.Answers.{noForm, IsReducedIn, IsReducedOf}
 use borrow.Author.Needs.{needs}
 use Rattle.twins.proofs.reduced_of.Statement.{statement}

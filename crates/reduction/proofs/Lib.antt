@@ -1,0 +1,5 @@
+pub mod Remainders
+pub mod Common
+pub mod Scaled
+pub mod Rows
+pub mod OneAnswer

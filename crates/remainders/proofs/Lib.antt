@@ -1,0 +1,3 @@
+pub mod Grown
+pub mod Lowered
+pub mod Finished

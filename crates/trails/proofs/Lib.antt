@@ -1,0 +1,3 @@
+pub mod Theory
+pub mod Backward
+pub mod Answer
