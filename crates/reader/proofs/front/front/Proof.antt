@@ -1,8 +1,8 @@
--- `records::front` meets its contract: the head stops it, and behind a sound head the setting of its size decides.
+-- `front::front` meets its contract: the head stops it, and behind a sound head the setting of its size decides.
 use borrow.Author.Needs.{needs}
 use Rattle.reader.proofs.Sizes.{head-stops, head-bounds, setting-stops, setting-goes}
-use Rattle.reader.proofs.records.front.Statement.{statement}
-use Rattle.reader.proofs.records.front.Tie as tie
+use Rattle.reader.proofs.front.front.Statement.{statement}
+use Rattle.reader.proofs.front.front.Tie as tie
 
 head-requires : tie.Need-head-requires
 head-requires c κs = search needs

@@ -1,4 +1,4 @@
--- `records::setting` meets its contract: the transitions stop it, then the start does, and then the target decides.
+-- `front::setting` meets its contract: the transitions stop it, then the start does, and then the target decides.
 use mathlib.Core.Path.{_≡_, _∙_, sym, ap}
 use native.Mathlib.Omega.{arith}
 use Prim.Native.Nat.{ℕ}
@@ -9,8 +9,8 @@ use Rattle.format.proofs.Places.{transitions-sound}
 use Rattle.fields.specs.Checked.{checked}
 use Rattle.fields.proofs.Checks.{fine, stop-bind, go-bind, map-sound}
 use borrow.Author.Needs.{needs}
-use Rattle.reader.proofs.records.setting.Statement.{statement}
-use Rattle.reader.proofs.records.setting.Tie as tie
+use Rattle.reader.proofs.front.setting.Statement.{statement}
+use Rattle.reader.proofs.front.setting.Tie as tie
 
 transitions-requires : tie.Need-transitions-requires
 transitions-requires c κs = search needs

@@ -1,4 +1,4 @@
--- `records::transition` meets its contract: its opening stops it or its weights decide.
+-- `transition` meets its contract: its opening stops it or its weights decide.
 use mathlib.Core.Path.{_∙_, sym, ap}
 use native.Mathlib.Omega.{arith}
 use Prim.Native.Nat.{_+_, _*_}
@@ -8,8 +8,8 @@ use Rattle.format.specs.Read.{sound, _>>_}
 use Rattle.fields.specs.Checked.{checked}
 use Rattle.fields.proofs.Checks.{stop-then, go-then, then-sound, opened-fits}
 use borrow.Author.Needs.{needs}
-use Rattle.reader.proofs.records.transition.Statement.{statement}
-use Rattle.reader.proofs.records.transition.Tie as tie
+use Rattle.records.proofs.transition.Statement.{statement}
+use Rattle.records.proofs.transition.Tie as tie
 
 mul-opened : tie.Need-mul-opened
 mul-opened c = search needs

@@ -1,4 +1,4 @@
--- `records::claim` meets its contract: its length stops it, or a coefficient does, or the constant decides.
+-- `claim` meets its contract: its length stops it, or a coefficient does, or the constant decides.
 use mathlib.Core.Path.{_∙_, sym, ap}
 use native.Mathlib.Omega.{arith}
 use Prim.Native.Nat.{_+_}
@@ -9,8 +9,8 @@ use Rattle.format.specs.Read.{sound, _>>_, need}
 use Rattle.fields.specs.Checked.{checked}
 use Rattle.fields.proofs.Checks.{stop-then, go-then, then-sound, whole-fits}
 use borrow.Author.Needs.{needs}
-use Rattle.reader.proofs.records.claim.Statement.{statement}
-use Rattle.reader.proofs.records.claim.Tie as tie
+use Rattle.records.proofs.claim.Statement.{statement}
+use Rattle.records.proofs.claim.Tie as tie
 
 add-whole : tie.Need-add-whole
 add-whole c = search needs

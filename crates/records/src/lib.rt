@@ -1,29 +1,37 @@
-// One record of each kind, and the records from NP to TG.
+// One record of each kind, its fields in order: document 01, "What the sheet holds".
 ghost use mathlib.Core.Path.{_≡_};
 ghost use Prim.Native.Nat.{_+_, _*_, _≤_};
 ghost use lib.ListN.{length};
-ghost use Rattle.format.specs.Reading.{sizeOf, headOf, transitionAt, startAt, targetAt, claimAt, settingOf, frontOf};
+ghost use Rattle.format.specs.Reading.{headOf, transitionAt, startAt, targetAt, claimAt};
 ghost use Rattle.fields.specs.Checked.{checked};
-ghost use Rattle.reader.specs.Answers.{sizedOf, frontAnswer};
-use super::Extent;
-use super::Measured;
-use super::runs::transitions;
+ghost use Rattle.records.specs.Sized.{sizedOf};
 use fields::coefficients;
 use fields::constant;
 use fields::opened;
 use fields::refuse;
 use fields::weights;
 use fields::whole;
-use layout::behind_transitions;
-use layout::target_from;
 use terms::Check;
 use terms::Kind;
 use terms::Place;
 use terms::Refusal;
 use terms::Transition;
+use terms::among;
+
+// The numbers of places and transitions.
+pub struct Extent {
+    pub places: usize,
+    pub transitions: usize,
+}
+
+// A net's extent, or the refusal of the sheet's first fault so far.
+pub enum Measured {
+    As(Extent),
+    Faulty(Refusal),
+}
 
 // NP: the numbers of places and transitions.
-fn head(s: &[u8]) -> Measured
+pub fn head(s: &[u8]) -> Measured
     ensures { λ r. ⌜ r ≡ sizedOf (headOf (now (s .entry))) ⌝ }
 {
     let opening = opened(s, 0, b'N', b'P', 4);
@@ -31,13 +39,11 @@ fn head(s: &[u8]) -> Measured
         return Measured::Faulty(r);
     }
     let n = s[2] as usize;
-    if n < 1 {
-        return Measured::Faulty(Refusal::at_byte(3, 2));
-    }
-    if Place::MOST < n {
-        return Measured::Faulty(Refusal::at_byte(3, 2));
-    }
     let t = s[3] as usize;
+    let some_places = among(n, Place::MOST);
+    if !some_places {
+        return Measured::Faulty(Refusal::at_byte(3, 2));
+    }
     if Transition::MOST < t {
         return Measured::Faulty(Refusal::at_byte(3, 3));
     }
@@ -60,7 +66,7 @@ pub fn transition(s: &[u8], n: usize, at: usize) -> Check
 }
 
 // MK: the start.
-fn start(s: &[u8], n: usize, at: usize) -> Check
+pub fn start(s: &[u8], n: usize, at: usize) -> Check
     requires { ⌜ (n ≤ 16) × (at ≤ length (now s)) ⌝ }
     ensures { λ r. ⌜ r ≡ checked (startAt (now (s .entry)) n at) ⌝ }
 {
@@ -68,7 +74,7 @@ fn start(s: &[u8], n: usize, at: usize) -> Check
 }
 
 // TG: the kind and the target.
-fn target(s: &[u8], n: usize, at: usize) -> Check
+pub fn target(s: &[u8], n: usize, at: usize) -> Check
     requires { ⌜ (n ≤ 16) × (at ≤ length (now s)) ⌝ }
     ensures { λ r. ⌜ r ≡ checked (targetAt (now (s .entry)) n at) ⌝ }
 {
@@ -96,35 +102,4 @@ pub fn claim(s: &[u8], n: usize, at: usize) -> Check
         return each;
     };
     constant(s, at + 2 + n)
-}
-
-// TR to TG.
-fn setting(s: &[u8], n: usize, t: usize) -> Check
-    requires { ⌜ (n ≤ 16) × (t ≤ 64) × (4 ≤ length (now s)) ⌝ }
-    ensures { λ r. ⌜ r ≡ checked (settingOf (now (s .entry)) (sizeOf n t)) ⌝ }
-{
-    let net = transitions(s, n, t);
-    let Check::Fine = net else {
-        return net;
-    };
-    let marking = start(s, n, behind_transitions(n, t));
-    let Check::Fine = marking else {
-        return marking;
-    };
-    target(s, n, target_from(n, t))
-}
-
-// NP to TG.
-pub fn front(s: &[u8]) -> Measured
-    ensures { λ r. ⌜ r ≡ frontAnswer (frontOf (now (s .entry))) ⌝ }
-{
-    let first = head(s);
-    let Measured::As(net) = first else {
-        return first;
-    };
-    let rest = setting(s, net.places, net.transitions);
-    if let Check::Refused(r) = rest {
-        return Measured::Faulty(r);
-    }
-    first
 }

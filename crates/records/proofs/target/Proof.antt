@@ -1,4 +1,4 @@
--- `records::target` meets its contract: its opening stops it or its kind decides.
+-- `target` meets its contract: its opening stops it or its kind decides.
 use mathlib.Core.Path.{_≡_, _∙_, sym}
 use native.Mathlib.Omega.{arith}
 use mathlib.Core.Bool.{true}
@@ -9,8 +9,8 @@ use Rattle.format.specs.Reading.{byte, targetIn, openedAt, targetAt}
 use Rattle.format.specs.Read.{sound, _>>_, need}
 use Rattle.fields.proofs.Checks.{stop-then, go-then, opened-fits}
 use borrow.Author.Needs.{needs}
-use Rattle.reader.proofs.records.target.Statement.{statement}
-use Rattle.reader.proofs.records.target.Tie as tie
+use Rattle.records.proofs.target.Statement.{statement}
+use Rattle.records.proofs.target.Tie as tie
 
 mul-opened : tie.Need-mul-opened
 mul-opened c = search needs

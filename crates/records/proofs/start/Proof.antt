@@ -1,11 +1,11 @@
--- `records::start` meets its contract: it is fine where it opens.
+-- `start` meets its contract: it is fine where it opens.
 use mathlib.Core.Path.{_∙_, sym}
 use Prim.Native.Nat.{_+_, _*_}
 use Rattle.format.specs.Reading.{words, openedAt, startAt}
 use Rattle.fields.proofs.Checks.{then-sound}
 use borrow.Author.Needs.{needs}
-use Rattle.reader.proofs.records.start.Statement.{statement}
-use Rattle.reader.proofs.records.start.Tie as tie
+use Rattle.records.proofs.start.Statement.{statement}
+use Rattle.records.proofs.start.Tie as tie
 
 mul-opened : tie.Need-mul-opened
 mul-opened c = search needs
