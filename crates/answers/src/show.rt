@@ -86,7 +86,7 @@ fn show_transition(sheet: &[u8], t: usize) {
 }
 
 fn show_claim(sheet: &[u8], i: usize) {
-    let h = sheet::half_space_of(sheet, Claim(i));
+    let h = claims::half_space_of(sheet, Claim(i));
     say(b"claim");
     number(i as u64);
     say(b" ");
@@ -96,9 +96,9 @@ fn show_claim(sheet: &[u8], i: usize) {
     coefficients(row);
     say(b" constant");
     signed(h.constant);
-    record(sheet::claim_record(sheet, Claim(i)));
+    record(claims::claim_record(sheet, Claim(i)));
     say(b" ");
-    check(sheet::claim_check(sheet, Claim(i)));
+    check(claims::claim_check(sheet, Claim(i)));
     say(b"\n");
 }
 

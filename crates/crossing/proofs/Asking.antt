@@ -9,8 +9,8 @@ use Rattle.format.specs.Contents.{halfSpace, claim}
 use Rattle.format.specs.Formed.{IsSheet, Row, IsCoefficient}
 use Rattle.format.specs.Reading.{transitionSize, transitionsFrom}
 use Rattle.reader.specs.declared.Counts.{Counts}
-use Rattle.sheet.specs.Known.{Known}
-use Rattle.sheet.proofs.Known.{limits, weights-whole, transition-is, formed-claim, formed-transition}
+use Rattle.known.specs.Known.{Known}
+use Rattle.known.proofs.Known.{limits, weights-whole, transition-is, formed-claim, formed-transition}
 use Rattle.crossing.specs.Range.{Constants}
 use Rattle.crossing.specs.Crosses.{Ready, space}
 use Rattle.crossing.proofs.Bounds.{constant-range}

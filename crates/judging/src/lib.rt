@@ -8,7 +8,7 @@ ghost use Rattle.format.specs.Formed.{Row, IsCoefficient};
 ghost use Rattle.format.specs.Reading.{reading};
 ghost use Rattle.crossing.specs.Range.{Constants};
 ghost use Rattle.crossing.specs.Crosses.{space};
-ghost use Rattle.sheet.specs.Known.{Known};
+ghost use Rattle.known.specs.Known.{Known};
 ghost use Rattle.judging.specs.Judges.{Judges, plainJudged};
 
 mod inside; // inside.rt: do the start, or some target marking, lie inside?

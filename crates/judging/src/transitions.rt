@@ -9,7 +9,7 @@ ghost use Rattle.format.specs.Reading.{reading, transitionIn};
 ghost use Rattle.residues.specs.Told.{Told, IsBroken};
 ghost use Rattle.crossing.specs.Range.{Constants};
 ghost use Rattle.crossing.specs.Crosses.{Ready, space};
-ghost use Rattle.sheet.specs.Known.{Known};
+ghost use Rattle.known.specs.Known.{Known};
 ghost use Rattle.judging.specs.Judges.{FirstBroken};
 use layout::behind_transitions;
 use reader::Counts;

@@ -17,9 +17,9 @@ use Rattle.format.specs.Contents.{Contents}
 use Rattle.format.specs.Formed.{IsSheet}
 use Rattle.reader.specs.declared.Counts.{Counts}
 use Rattle.terms.specs.declared.Check.the-variants.{Fine}
-use Rattle.sheet.specs.Known.{Known}
+use Rattle.known.specs.Known.{Known}
 use Rattle.pairs.proofs.Order.{held-so, both-fit}
-use Rattle.sheet.proofs.Known.{limits, formed-transition, transitions-count}
+use Rattle.known.proofs.Known.{limits, formed-transition, transitions-count}
 use Rattle.judging.specs.Judges.{judgedOf}
 use Rattle.twins.specs.Answers.{IsTwinNumber}
 use Rattle.lines.specs.Lines.{answerText, verdictText, Brief}

@@ -15,7 +15,7 @@ use Rattle.reader.specs.Answers.{countsOf}
 use Rattle.reader.specs.declared.Counts.{Counts}
 use Rattle.terms.specs.declared.Check.{Check}
 use Rattle.terms.specs.declared.Check.the-variants.{Fine, Refused}
-use Rattle.sheet.specs.Known.{Known}
+use Rattle.known.specs.Known.{Known}
 use Rattle.pairs.specs.declared.Answer.{Answer}
 use Rattle.pairs.specs.declared.Answer.the-variants as answers
 use Rattle.pairs.specs.declared.Pair.{Pair}

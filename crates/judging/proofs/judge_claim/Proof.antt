@@ -8,7 +8,7 @@ use mir.Facts.{toZ-ofZ}
 use Rattle.nets.specs.HalfSpaces as spaces
 use Rattle.format.specs.Contents.{Contents, halfSpace, claim}
 use Rattle.format.proofs.ClaimRecord.{sheet-of}
-use Rattle.sheet.proofs.Known.{same-contents, limits, claim-whole, space-is}
+use Rattle.known.proofs.Known.{same-contents, limits, claim-whole, space-is}
 use Rattle.crossing.specs.Crosses.{space}
 use Rattle.crossing.proofs.Asking.{numbers-fit}
 use Rattle.judging.specs.Judges.{Judges}

@@ -14,7 +14,7 @@ use Rattle.format.specs.Contents.{Contents}
 use Rattle.format.specs.Read.{sound}
 use Rattle.format.specs.Reading.{transitionIn, reading}
 use Rattle.format.proofs.ClaimRecord.{sheet-of}
-use Rattle.sheet.proofs.Known.{same-contents, limits, transition-is, start-whole, start-is, target-whole, target-is, transitions-count}
+use Rattle.known.proofs.Known.{same-contents, limits, transition-is, start-whole, start-is, target-whole, target-is, transitions-count}
 use Rattle.residues.specs.Told.{Says}
 use Rattle.crossing.specs.Crosses.{space, Crosses}
 use Rattle.crossing.proofs.Asking.{ready}

@@ -10,7 +10,7 @@ use Rattle.nets.specs.HalfSpaces as spaces
 use Rattle.format.specs.Contents.{Contents, halfSpace, claim}
 use Rattle.format.specs.Reading.{transitionIn}
 use Rattle.format.proofs.ClaimRecord.{sheet-of}
-use Rattle.sheet.proofs.Known.{same-contents, limits, claim-whole, transition-is, space-is}
+use Rattle.known.proofs.Known.{same-contents, limits, claim-whole, transition-is, space-is}
 use Rattle.crossing.specs.Crosses.{Crosses, space}
 use Rattle.crossing.proofs.Asking.{numbers-fit, ready}
 use borrow.Author.Needs.{needs}

@@ -12,7 +12,7 @@ use Rattle.format.specs.Read.{sound}
 use Rattle.format.specs.Contents.{Contents}
 use Rattle.format.specs.Reading.{reading, transitionIn, transitionsFrom, transitionSize}
 use Rattle.format.proofs.ClaimRecord.{sheet-of}
-use Rattle.sheet.proofs.Known.{same-contents, limits, transition-is, transitions-count}
+use Rattle.known.proofs.Known.{same-contents, limits, transition-is, transitions-count}
 use Rattle.residues.specs.Told.{IsBroken}
 use Rattle.crossing.specs.Crosses.{space}
 use Rattle.crossing.proofs.Asking.{ready}

@@ -11,8 +11,8 @@ use Rattle.format.specs.Reading.{reading}
 use Rattle.format.specs.Encoding.{recordFrom}
 use Rattle.format.proofs.Places.{held}
 use Rattle.format.proofs.ClaimRecord.{sheet-of, record-stands}
-use Rattle.sheet.specs.Part.{recordAt}
-use Rattle.sheet.proofs.Taken.{sound-answer, refused-answer, among-some, c-is, most, record-from}
+use Rattle.claims.specs.Part.{recordAt}
+use Rattle.known.proofs.Taken.{sound-answer, refused-answer, among-some, c-is, most, record-from}
 use borrow.Author.Needs.{needs}
 use Rattle.krunvedo.proofs.records.record_from.Statement.{statement}
 use Rattle.krunvedo.proofs.records.record_from.Tie as tie

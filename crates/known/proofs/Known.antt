@@ -15,9 +15,9 @@ use Rattle.format.specs.Reading.{sizeOf, transitionIn, targetIn, claimIn, words
 use Rattle.format.proofs.Places.{Held, held}
 use Rattle.format.proofs.Accepted.{formed}
 use Rattle.reader.specs.declared.Counts.{Counts}
-use Rattle.sheet.specs.Known.{Known}
+use Rattle.known.specs.Known.{Known}
 use Rattle.rows.proofs.Filled.{length-signed}
-use Rattle.sheet.proofs.Taken.{most, weights-fit, weights-taken, claim-fits, claim-taken, start-fits, start-taken, target-fits, target-taken, tc-is, c-is}
+use Rattle.known.proofs.Taken.{most, weights-fit, weights-taken, claim-fits, claim-taken, start-fits, start-taken, target-fits, target-taken, tc-is, c-is}
 
 pub all-at : {A : Type 0} (P : A → Type 0) (d : A) (xs : List A) (i : ℕ) → i < length xs → All P xs → P (getD xs i d)
 unfolding All

@@ -14,12 +14,12 @@ use Rattle.format.specs.Read.{choose}
 use Rattle.format.specs.Contents.{claim}
 use Rattle.format.specs.Encoding.{claimBytes, recordFrom}
 use Rattle.format.proofs.ClaimRecord.{sheet-of, record-stands}
-use Rattle.sheet.specs.Part.{recordAt, recordBytes}
-use Rattle.sheet.proofs.Parts.{at-start}
-use Rattle.sheet.proofs.Taken.{sound-answer, refused-answer, among-some, c-is, most, claim-fits, record-from, record-bytes}
+use Rattle.claims.specs.Part.{recordAt, recordBytes}
+use Rattle.claims.proofs.Parts.{at-start}
+use Rattle.known.proofs.Taken.{sound-answer, refused-answer, among-some, c-is, most, claim-fits, record-from, record-bytes}
 use borrow.Author.Needs.{needs}
-use Rattle.sheet.proofs.claim_record.Statement.{statement}
-use Rattle.sheet.proofs.claim_record.Tie as tie
+use Rattle.claims.proofs.claim_record.Statement.{statement}
+use Rattle.claims.proofs.claim_record.Tie as tie
 
 read-requires : tie.Need-read-requires
 read-requires c κs = search needs

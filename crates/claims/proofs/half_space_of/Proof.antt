@@ -18,14 +18,14 @@ use Rattle.format.specs.Reading.{reading}
 use Rattle.reader.specs.Answers.{checkOf}
 use Rattle.reader.specs.declared.Counts.{Counts}
 use Rattle.terms.specs.declared.Check.the-variants.{Fine, Refused}
-use Rattle.sheet.specs.Held.{noHalfSpace, halfSpaceIn, halfSpaceOf}
-use Rattle.sheet.specs.Known.{Known}
-use Rattle.sheet.specs.declared.HalfSpace.{HalfSpace}
-use Rattle.sheet.proofs.Taken.{sound-answer, refused-answer, among-some}
-use Rattle.sheet.proofs.Known.{limits, claim-whole, claim-is}
+use Rattle.claims.specs.Held.{noHalfSpace, halfSpaceIn, halfSpaceOf}
+use Rattle.known.specs.Known.{Known}
+use Rattle.claims.specs.declared.HalfSpace.{HalfSpace}
+use Rattle.known.proofs.Taken.{sound-answer, refused-answer, among-some}
+use Rattle.known.proofs.Known.{limits, claim-whole, claim-is}
 use borrow.Author.Needs.{needs}
-use Rattle.sheet.proofs.half_space_of.Statement.{statement}
-use Rattle.sheet.proofs.half_space_of.Tie as tie
+use Rattle.claims.proofs.half_space_of.Statement.{statement}
+use Rattle.claims.proofs.half_space_of.Tie as tie
 
 read-requires : tie.Need-read-requires
 read-requires c κs = search needs

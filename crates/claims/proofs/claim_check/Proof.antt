@@ -10,11 +10,11 @@ use Rattle.format.specs.Reading.{reading}
 use Rattle.format.proofs.Places.{held}
 use Rattle.reader.specs.Answers.{checkOf}
 use Rattle.terms.specs.declared.Check.the-variants.{Fine, Refused}
-use Rattle.sheet.specs.Held.{claimCheck}
-use Rattle.sheet.proofs.Taken.{sound-answer, refused-answer, c-is}
+use Rattle.claims.specs.Held.{claimCheck}
+use Rattle.known.proofs.Taken.{sound-answer, refused-answer, c-is}
 use borrow.Author.Needs.{needs}
-use Rattle.sheet.proofs.claim_check.Statement.{statement}
-use Rattle.sheet.proofs.claim_check.Tie as tie
+use Rattle.claims.proofs.claim_check.Statement.{statement}
+use Rattle.claims.proofs.claim_check.Tie as tie
 
 read-requires : tie.Need-read-requires
 read-requires c κs = search needs

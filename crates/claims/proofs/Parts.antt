@@ -6,7 +6,7 @@ use native.Mathlib.Nat.{add-zero}
 use denote.Ref.{RefT}
 use Rattle.terms.specs.declared.Claim.{Claim}
 use Rattle.format.specs.Reading.{reading}
-use Rattle.sheet.specs.Part.{IsPart, recordAt, recordBytes}
+use Rattle.claims.specs.Part.{IsPart, recordAt, recordBytes}
 
 pub at-start : {part whole : RefT (List ℕ)} (at : ℕ) (bs : List ℕ) → part .ptr ≡ whole .ptr → part .now ≡ [] → at ≡ 0 → bs ≡ [] → IsPart part whole at bs
 at-start {whole} at bs p r e f =
