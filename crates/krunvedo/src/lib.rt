@@ -14,7 +14,7 @@ ghost use Rattle.traces.specs.Traces.{listOf};
 ghost use Rattle.numbers.specs.Numbers.{checkIs, readingIs, weightsIs, startIs, targetIs, halfSpaceIs, begunIs, tracedIs};
 ghost use Rattle.krunvedo.specs.Exports.{recordOf, IsPaired, IsVerdict, IsReducedSpace, IsTwinned, IsListingText, refusalTold, refusalAfter};
 
-mod records; // records.rt: where a claim's record stands
+mod parts; // parts.rt: where a claim's record stands
 
 use numbers::Counted;
 use numbers::Fired;
@@ -35,7 +35,7 @@ use numbers::twin_number;
 use numbers::verdict_number;
 use numbers::verdict_transition;
 use numbers::written_number;
-use records::record_from;
+use parts::record_from;
 use terms::Claim;
 use terms::Place;
 use terms::Refusal;

@@ -14,8 +14,8 @@ use Rattle.format.proofs.ClaimRecord.{sheet-of, record-stands}
 use Rattle.claims.specs.Part.{recordAt}
 use Rattle.known.proofs.Taken.{sound-answer, refused-answer, among-some, c-is, most, record-from}
 use borrow.Author.Needs.{needs}
-use Rattle.krunvedo.proofs.records.record_from.Statement.{statement}
-use Rattle.krunvedo.proofs.records.record_from.Tie as tie
+use Rattle.krunvedo.proofs.parts.record_from.Statement.{statement}
+use Rattle.krunvedo.proofs.parts.record_from.Tie as tie
 
 read-requires : tie.Need-read-requires
 read-requires c κs = search needs
