@@ -1,6 +1,6 @@
 // Records of one kind, one after the other.
 ghost use mathlib.Core.Path.{_≡_};
-ghost use Prim.Native.Nat.{_+_, _*_, _≤_};
+ghost use Prim.Native.Nat.{_≤_};
 ghost use lib.ListN.{length};
 ghost use Rattle.format.specs.Reading.{sizeOf, transitionsAt, transitionsFrom, claimDue, claimsOf, claimsFrom};
 ghost use Rattle.fields.specs.Checked.{checked};

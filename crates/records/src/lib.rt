@@ -1,6 +1,6 @@
 // One record of each kind, its fields in order: document 01, "What the sheet holds".
 ghost use mathlib.Core.Path.{_≡_};
-ghost use Prim.Native.Nat.{_+_, _*_, _≤_};
+ghost use Prim.Native.Nat.{_≤_};
 ghost use lib.ListN.{length};
 ghost use Rattle.format.specs.Reading.{headOf, transitionAt, startAt, targetAt, claimAt};
 ghost use Rattle.fields.specs.Checked.{checked};
