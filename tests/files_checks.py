@@ -58,7 +58,7 @@ def files_of_git(root: Path) -> list[str]:
 
 
 def files_there(root: Path) -> list[str]:
-    # crates/reader has a folder of proofs that is named target: only the one at the root is rt's.
+    # crates/records has a folder of proofs that is named target: only the one at the root is rt's.
     paths = (path.relative_to(root) for path in root.rglob("*") if path.is_file())
     return sorted(str(path) for path in paths if path.parts[0] not in IGNORED and "__pycache__" not in path.parts)
 

@@ -1,5 +1,4 @@
 // What each call answers, in words.
-use reader::Reading;
 use shown::number;
 use shown::refusal;
 use shown::say;
@@ -37,15 +36,19 @@ fn check(c: Check) {
 }
 
 pub fn show_answer(sheet: &[u8]) {
-    match reader::read(sheet) {
-        Reading::Malformed(r) => refusal(r),
-        Reading::Sound(k) => {
+    let n = counts::places_of(sheet);
+    let t = counts::transitions_of(sheet);
+    let i = counts::claims_of(sheet);
+    let answer = n.answer;
+    match answer {
+        Check::Refused(r) => refusal(r),
+        Check::Fine => {
             say(b"places");
-            number(k.places as u64);
+            number(n.count as u64);
             say(b" transitions");
-            number(k.transitions as u64);
+            number(t.count as u64);
             say(b" claims");
-            number(k.claims as u64);
+            number(i.count as u64);
         }
     }
     say(b"\n");
@@ -86,7 +89,7 @@ fn show_transition(sheet: &[u8], t: usize) {
 }
 
 fn show_claim(sheet: &[u8], i: usize) {
-    let h = sheet::half_space_of(sheet, Claim(i));
+    let h = claims::half_space_of(sheet, Claim(i));
     say(b"claim");
     number(i as u64);
     say(b" ");
@@ -96,9 +99,9 @@ fn show_claim(sheet: &[u8], i: usize) {
     coefficients(row);
     say(b" constant");
     signed(h.constant);
-    record(sheet::claim_record(sheet, Claim(i)));
+    record(claims::claim_record(sheet, Claim(i)));
     say(b" ");
-    check(sheet::claim_check(sheet, Claim(i)));
+    check(claims::claim_check(sheet, Claim(i)));
     say(b"\n");
 }
 

@@ -2,7 +2,7 @@
 use mathlib.Core.List.{List}
 use Prim.Native.Nat.{ℕ, _≤_}
 use Rattle.reader.specs.declared.Counts.{Counts}
-use Rattle.sheet.specs.Known.{Known}
+use Rattle.known.specs.Known.{Known}
 
 pub record Asked (s : List ℕ) (k : Counts) (i t : ℕ) : Type 0 where
   pub known : Known s k

@@ -12,8 +12,8 @@ use Rattle.nets.proofs.Vectors.{enabled-length}
 use Rattle.format.specs.Contents.{Contents}
 use Rattle.format.specs.Formed.{IsSheet}
 use Rattle.reader.specs.declared.Counts.{Counts}
-use Rattle.sheet.specs.Known.{Known}
-use Rattle.sheet.proofs.Known.{limits, formed-transition, transitions-count}
+use Rattle.known.specs.Known.{Known}
+use Rattle.known.proofs.Known.{limits, formed-transition, transitions-count}
 use Rattle.judged.specs.Judges.{judgedOf}
 use Rattle.twins.specs.Answers.{IsTwinNumber}
 use Rattle.lines.specs.Lines.{answerText, verdictText, Brief}

@@ -9,7 +9,6 @@ ghost use Rattle.values.specs.Ready.{space};
 ghost use Rattle.tables.specs.Told.{Says};
 use tables::signs::some_above;
 use rows::tokens_from;
-use tables::signs::some_above;
 use terms::Place;
 use values::value_of;
 

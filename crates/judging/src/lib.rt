@@ -8,7 +8,7 @@ ghost use Rattle.format.specs.Formed.{Row, IsCoefficient};
 ghost use Rattle.format.specs.Reading.{reading};
 ghost use Rattle.values.specs.Range.{Constants};
 ghost use Rattle.values.specs.Ready.{space};
-ghost use Rattle.sheet.specs.Known.{Known};
+ghost use Rattle.known.specs.Known.{Known};
 ghost use Rattle.judged.specs.Judges.{Judges};
 use crossing::crossing_of;
 use inside::inside_at;

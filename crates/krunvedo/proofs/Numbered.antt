@@ -20,7 +20,8 @@ use Rattle.format.specs.Reading.{byte, signedWord, markedAt, wholeAt, openedAt,
 use Rattle.fields.specs.Checked.{checked}
 use Rattle.terms.specs.declared.Check.{Check}
 use Rattle.terms.specs.declared.Check.the-variants.{Fine, Refused}
-use Rattle.sheet.specs.Held.{claimCheck, transitionCheck, weightsOf, weightsIn, noWeights}
+use Rattle.sheet.specs.Held.{transitionCheck, weightsOf, weightsIn, noWeights}
+use Rattle.claims.specs.Held.{claimCheck}
 use Rattle.pairs.specs.Pairs.{pairCheck}
 use Rattle.verdicts.specs.Judged.{verdictCheck}
 use Rattle.listing.specs.Listed.{Lists, IsListed, roomCheck, listingCheck}

@@ -10,8 +10,8 @@ use Rattle.terms.specs.declared.Claim.{Claim}
 use Rattle.terms.specs.declared.Transition.{Transition}
 use Rattle.format.specs.Read.{Read, choose}
 use Rattle.format.specs.Contents.{Contents}
-use Rattle.sheet.specs.Held.{claimCheck}
-use Rattle.sheet.specs.Part.{recordAt, recordBytes}
+use Rattle.claims.specs.Held.{claimCheck}
+use Rattle.claims.specs.Part.{recordAt, recordBytes}
 use Rattle.pairs.specs.Pairs.{IsPair}
 use Rattle.pairs.specs.declared.Pair.{Pair}
 use Rattle.verdicts.specs.Judged.{IsJudged}

@@ -4,7 +4,8 @@ ghost use mathlib.Core.Path.{_≡_};
 ghost use lib.ListN.{length};
 ghost use Rattle.format.specs.Reading.{reading};
 ghost use Rattle.reader.specs.Answers.{answerOf};
-ghost use Rattle.sheet.specs.Held.{weightsOf, startOf, targetOf, halfSpaceOf, claimCheck};
+ghost use Rattle.sheet.specs.Held.{weightsOf, startOf, targetOf};
+ghost use Rattle.claims.specs.Held.{halfSpaceOf, claimCheck};
 ghost use Rattle.pairs.specs.Pairs.{pairCheck, areaAfter};
 ghost use Rattle.verdicts.specs.Judged.{verdictCheck};
 ghost use Rattle.listing.specs.Listed.{listingCheck};
@@ -13,7 +14,7 @@ ghost use Rattle.traces.specs.Traces.{listOf};
 ghost use Rattle.numbers.specs.Numbers.{checkIs, readingIs, weightsIs, startIs, targetIs, halfSpaceIs, begunIs, tracedIs};
 ghost use Rattle.krunvedo.specs.Exports.{recordOf, IsPaired, IsVerdict, IsReducedSpace, IsTwinned, IsListingText, refusalTold, refusalAfter};
 
-mod records; // records.rt: where a claim's record stands
+mod parts; // parts.rt: where a claim's record stands
 
 use numbers::Counted;
 use numbers::Fired;
@@ -34,7 +35,7 @@ use numbers::twin_number;
 use numbers::verdict_number;
 use numbers::verdict_transition;
 use numbers::written_number;
-use records::record_from;
+use parts::record_from;
 use terms::Claim;
 use terms::Place;
 use terms::Refusal;
@@ -95,7 +96,7 @@ pub extern "C" fn krunvedo_target(sheet: &[u8]) -> Target
 pub extern "C" fn krunvedo_half_space(sheet: &[u8], i: usize) -> Space
     ensures { λ r. ⌜ r ≡ halfSpaceIs (halfSpaceOf (reading (now (sheet .entry))) (record { 0 = i })) ⌝ }
 {
-    let h = sheet::half_space_of(sheet, Claim(i));
+    let h = claims::half_space_of(sheet, Claim(i));
     let answer = h.answer;
     let coefficients = h.coefficients;
     Space {
@@ -109,7 +110,7 @@ pub extern "C" fn krunvedo_half_space(sheet: &[u8], i: usize) -> Space
 pub extern "C" fn krunvedo_claim_check(sheet: &[u8], i: usize) -> Refused
     ensures { λ r. ⌜ r ≡ checkIs (claimCheck (reading (now (sheet .entry))) (record { 0 = i })) ⌝ }
 {
-    Refused::of_check(sheet::claim_check(sheet, Claim(i)))
+    Refused::of_check(claims::claim_check(sheet, Claim(i)))
 }
 
 // An export returns no reference, so the record is told by where it stands.
@@ -117,8 +118,8 @@ pub extern "C" fn krunvedo_claim_check(sheet: &[u8], i: usize) -> Refused
 pub extern "C" fn krunvedo_claim_record(sheet: &[u8], i: usize) -> Record
     ensures { λ r. ⌜ r ≡ recordOf (reading (now (sheet .entry))) (record { 0 = i }) ⌝ }
 {
-    let check = sheet::claim_check(sheet, Claim(i));
-    let part = sheet::claim_record(sheet, Claim(i));
+    let check = claims::claim_check(sheet, Claim(i));
+    let part = claims::claim_record(sheet, Claim(i));
     Record {
         refusal: Refused::of_check(check),
         offset: record_from(sheet, Claim(i)),

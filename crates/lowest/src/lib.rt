@@ -10,7 +10,7 @@ ghost use Rattle.tables.specs.Told.{Told};
 ghost use Rattle.residues.specs.Asked.{IsBroken};
 ghost use Rattle.values.specs.Range.{Constants};
 ghost use Rattle.values.specs.Ready.{Ready, space};
-ghost use Rattle.sheet.specs.Known.{Known};
+ghost use Rattle.known.specs.Known.{Known};
 ghost use Rattle.lowest.specs.Lowest.{FirstBroken};
 use layout::behind_transitions;
 use reader::Counts;

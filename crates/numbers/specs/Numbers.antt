@@ -11,7 +11,7 @@ use Rattle.terms.specs.declared.Kind.the-variants.{Exact, AtOrAbove}
 use Rattle.sheet.specs.declared.Weights.{Weights}
 use Rattle.sheet.specs.declared.Start.{Start}
 use Rattle.sheet.specs.declared.Target as sheet
-use Rattle.sheet.specs.declared.HalfSpace.{HalfSpace}
+use Rattle.claims.specs.declared.HalfSpace.{HalfSpace}
 use Rattle.pairs.specs.declared.Answer as pairs
 use Rattle.pairs.specs.declared.Answer.the-variants as pair-answers
 use Rattle.pairs.specs.declared.Pair.{Pair}

@@ -14,7 +14,7 @@ use Rattle.format.specs.Read.{choose}
 use Rattle.reader.specs.declared.Counts.{Counts}
 use Rattle.terms.specs.declared.Check.{Check}
 use Rattle.terms.specs.declared.Check.the-variants.{Fine, Refused}
-use Rattle.sheet.proofs.Taken.{among-some}
+use Rattle.known.proofs.Taken.{among-some}
 use Rattle.pairs.specs.Pairs.{countedCheck}
 
 pub held-so : (b : Bool) (x : Check) (r : Refusal) → choose b x (Refused r) ≡ Fine → (b ≡ true) × (x ≡ Fine)

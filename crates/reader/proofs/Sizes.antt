@@ -11,12 +11,13 @@ use Rattle.format.specs.Reading.{Size, sizeOf, headOf, settingOf, frontOf}
 use Rattle.format.proofs.Sound.{head-sound}
 use Rattle.format.proofs.Places.{sizeIn, front-sound, setting-sound}
 use Rattle.fields.specs.Checked.{checked}
-use Rattle.reader.specs.Answers.{sizedOf, frontAnswer}
+use Rattle.records.specs.Sized.{sizedOf}
+use Rattle.reader.specs.Answers.{frontAnswer}
 use Rattle.terms.specs.declared.Check.{Check}
 use Rattle.terms.specs.declared.Check.the-variants.{Fine, Refused}
-use Rattle.reader.specs.declared.Extent.{Extent}
-use Rattle.reader.specs.declared.Measured.{Measured}
-use Rattle.reader.specs.declared.Measured.the-variants.{As, Faulty}
+use Rattle.records.specs.declared.Extent.{Extent}
+use Rattle.records.specs.declared.Measured.{Measured}
+use Rattle.records.specs.declared.Measured.the-variants.{As, Faulty}
 use Rattle.fields.proofs.Checks.{fine, turned}
 
 as-not-faulty : {z : Extent} {r : Refusal} → As z ≡ Faulty r → ⊥

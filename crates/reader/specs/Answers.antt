@@ -7,16 +7,11 @@ use Rattle.format.specs.Contents.{Claim, Contents}
 use Rattle.format.specs.Reading.{Size}
 use Rattle.terms.specs.declared.Check.{Check}
 use Rattle.terms.specs.declared.Check.the-variants.{Fine, Refused}
-use Rattle.reader.specs.declared.Measured.{Measured}
-use Rattle.reader.specs.declared.Measured.the-variants.{As, Faulty}
+use Rattle.records.specs.declared.Measured.{Measured}
+use Rattle.records.specs.declared.Measured.the-variants.{As, Faulty}
 use Rattle.reader.specs.declared.Counts.{Counts}
 use Rattle.reader.specs.declared.Reading.{Reading}
 use Rattle.reader.specs.declared.Reading.the-variants.{Sound, Malformed}
-
--- the net's size as NP says it, or the refusal
-abbrev pub sizedOf : Read Size → Measured
-sizedOf (sound z) = As (record { places = z .n; transitions = z .T })
-sizedOf (refused r) = Faulty r
 
 -- the net's own size, where NP to TG are sound, or the refusal
 abbrev pub frontAnswer : Read Setting → Measured

@@ -3,25 +3,14 @@ ghost use mathlib.Core.Path.{_≡_};
 ghost use Rattle.format.specs.Reading.{reading};
 ghost use Rattle.reader.specs.Answers.{checkOf, IsMalformed, answerOf};
 
-mod records; // records.rt: one record of each kind
+mod front; // front.rt: the records from NP to TG
 mod runs; // runs.rt: records of one kind, one after the other
 
-use records::front;
+use front::front;
+use records::Measured;
 use runs::claims;
 use terms::Check;
 use terms::Refusal;
-
-// The numbers of places and transitions.
-pub(crate) struct Extent {
-    pub places: usize,
-    pub transitions: usize,
-}
-
-// A net's extent, or the refusal of the sheet's first fault so far.
-pub(crate) enum Measured {
-    As(Extent),
-    Faulty(Refusal),
-}
 
 pub struct Counts {
     pub places: usize,

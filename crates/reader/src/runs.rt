@@ -1,17 +1,17 @@
 // Records of one kind, one after the other.
 ghost use mathlib.Core.Path.{_≡_};
-ghost use Prim.Native.Nat.{_+_, _*_, _≤_};
+ghost use Prim.Native.Nat.{_≤_};
 ghost use lib.ListN.{length};
 ghost use Rattle.format.specs.Reading.{sizeOf, transitionsAt, transitionsFrom, claimDue, claimsOf, claimsFrom};
 ghost use Rattle.fields.specs.Checked.{checked};
 ghost use Rattle.reader.specs.Answers.{countedOf};
 use super::Counts;
 use super::Reading;
-use super::records::claim;
-use super::records::transition;
 use fields::marked;
 use fields::refuse;
 use layout::claims_from;
+use records::claim;
+use records::transition;
 use terms::Check;
 use terms::Claim;
 use terms::Detail;

@@ -1,30 +1,22 @@
--- What the calls answer for what a sheet holds: the sheet's refusal, then 11 or 12, then the numbers, sixteen of them and zero beyond place n.
+-- What the calls answer for the net, the start and the target of a sheet: the sheet's refusal, then 12, then the numbers, sixteen of them and zero beyond place n.
 use mathlib.Core.List.{[]}
 use Prim.Native.Nat.{ℕ}
-use lib.IntN.{pos}
 use lib.ListN.{length}
 use Rattle.terms.specs.Limits.{among}
-use Rattle.terms.specs.Refusals.{notAClaim, notATransition}
+use Rattle.terms.specs.Refusals.{notATransition}
 use Rattle.terms.specs.declared.Transition.{Transition}
-use Rattle.terms.specs.declared.Claim.{Claim}
 use Rattle.terms.specs.declared.Kind.{Kind}
 use Rattle.terms.specs.declared.Kind.the-variants.{Exact, AtOrAbove}
 use Rattle.nets.specs.Nets.{transition}
 use Rattle.nets.specs.HalfSpaces.{sixteen}
 use Rattle.nets.specs.Verdicts as verdicts
 use Rattle.format.specs.Read.{Read, sound, refused, choose}
-use Rattle.format.specs.Contents.{Contents, halfSpace, claim}
+use Rattle.format.specs.Contents.{Contents}
 use Rattle.terms.specs.declared.Check.{Check}
 use Rattle.terms.specs.declared.Check.the-variants.{Fine, Refused}
 use Rattle.sheet.specs.declared.Weights.{Weights}
 use Rattle.sheet.specs.declared.Start.{Start}
 use Rattle.sheet.specs.declared.Target.{Target}
-use Rattle.sheet.specs.declared.HalfSpace.{HalfSpace}
-
--- 11: claim number 0 or above the count
-abbrev pub claimCheck : Read Contents → Claim → Check
-claimCheck (refused r) i = Refused r
-claimCheck (sound x) i = choose (among (i .0) (length (x .claims))) Fine (Refused (notAClaim i))
 
 -- 12: transition number 0 or above T
 abbrev pub transitionCheck : Read Contents → Transition → Check
@@ -61,14 +53,3 @@ noTarget answer = record { answer = answer; kind = Exact; tokens = sixteen 0 [] 
 abbrev pub targetOf : Read Contents → Target
 targetOf (refused r) = noTarget (Refused r)
 targetOf (sound x) = record { answer = Fine; kind = kindIs (x .setting .target .kind); tokens = sixteen 0 (x .setting .target .tokens) }
-
--- coefficients and constant of claim i
-abbrev pub noHalfSpace : Check → HalfSpace
-noHalfSpace answer = record { answer = answer; coefficients = sixteen (pos 0) []; constant = pos 0 }
-
-abbrev pub halfSpaceIn : Contents → ℕ → HalfSpace
-halfSpaceIn x i = record { answer = Fine; coefficients = sixteen (pos 0) (halfSpace (claim x i) .coefficients); constant = halfSpace (claim x i) .constant }
-
-abbrev pub halfSpaceOf : Read Contents → Claim → HalfSpace
-halfSpaceOf (refused r) i = noHalfSpace (Refused r)
-halfSpaceOf (sound x) i = choose (among (i .0) (length (x .claims))) (halfSpaceIn x (i .0)) (noHalfSpace (Refused (notAClaim i)))

@@ -1,18 +1,14 @@
-// What a sheet holds: document 01, "What the sheet holds". Each call reads the whole sheet first and passes its refusal on.
+// The net, the start and the target of a sheet: document 01, "What the sheet holds". Each call reads the whole sheet first and passes its refusal on.
 ghost use mathlib.Core.Path.{_≡_};
 ghost use Rattle.format.specs.Reading.{reading};
-ghost use Rattle.sheet.specs.Held.{claimCheck, weightsOf, startOf, targetOf, halfSpaceOf, noWeights, noHalfSpace};
-ghost use Rattle.sheet.specs.Part.{IsPart, recordAt, recordBytes};
-use layout::behind_claims;
+ghost use Rattle.sheet.specs.Held.{weightsOf, startOf, targetOf, noWeights};
 use layout::behind_transitions;
 use layout::target_from;
 use reader::Reading;
 use reader::read;
-use rows::numbers_at;
 use rows::tokens_from;
 use rows::weights_from;
 use terms::Check;
-use terms::Claim;
 use terms::Kind;
 use terms::Place;
 use terms::Refusal;
@@ -36,12 +32,6 @@ pub struct Target {
     pub tokens: [u16; Place::MOST],
 }
 
-pub struct HalfSpace {
-    pub answer: Check,
-    pub coefficients: [i8; Place::MOST],
-    pub constant: i16,
-}
-
 impl Weights {
     fn refused(answer: Check) -> Weights
         ensures { λ r. ⌜ r ≡ noWeights answer ⌝ }
@@ -50,18 +40,6 @@ impl Weights {
             answer,
             taken: [0u8; Place::MOST],
             put: [0u8; Place::MOST],
-        }
-    }
-}
-
-impl HalfSpace {
-    fn refused(answer: Check) -> HalfSpace
-        ensures { λ r. ⌜ r ≡ noHalfSpace answer ⌝ }
-    {
-        HalfSpace {
-            answer,
-            coefficients: [0i8; Place::MOST],
-            constant: 0,
         }
     }
 }
@@ -128,60 +106,4 @@ pub fn target_of(sheet: &[u8]) -> Target
         kind,
         tokens,
     }
-}
-
-// The coefficients and the constant of a claim.
-pub fn half_space_of(sheet: &[u8], i: Claim) -> HalfSpace
-    ensures { λ r. ⌜ r ≡ halfSpaceOf (reading (now (sheet .entry))) i ⌝ }
-{
-    let answer = read(sheet);
-    let Reading::Sound(counts) = answer else {
-        return HalfSpace::refused(answer.check());
-    };
-    let there = among(i.0, counts.claims);
-    if !there {
-        return HalfSpace::refused(Check::Refused(Refusal::no_claim(i)));
-    }
-    let n = counts.places;
-    let at = behind_claims(n, counts.transitions, i.0 - 1);
-    let h = numbers_at(sheet, at, n);
-    let coefficients = h.coefficients;
-    HalfSpace {
-        answer: Check::Fine,
-        coefficients,
-        constant: h.constant,
-    }
-}
-
-// The refusal of a claim's record, or that there is none.
-pub fn claim_check(sheet: &[u8], i: Claim) -> Check
-    ensures { λ r. ⌜ r ≡ claimCheck (reading (now (sheet .entry))) i ⌝ }
-{
-    let answer = read(sheet);
-    let Reading::Sound(counts) = answer else {
-        return answer.check();
-    };
-    let known = among(i.0, counts.claims);
-    if !known {
-        return Check::Refused(Refusal::no_claim(i));
-    }
-    Check::Fine
-}
-
-// The record of a claim, its mark included, as a part of the caller's own sheet; of length 0 at its start where `claim_check` refuses.
-pub fn claim_record(sheet: &[u8], i: Claim) -> &[u8]
-    ensures { λ r. ⌜ IsPart r (sheet .entry) (recordAt (reading (now (sheet .entry))) i) (recordBytes (reading (now (sheet .entry))) i) ⌝ }
-{
-    let answer = read(sheet);
-    let Reading::Sound(counts) = answer else {
-        return &sheet[..0];
-    };
-    let found = among(i.0, counts.claims);
-    if !found {
-        return &sheet[..0];
-    }
-    let n = counts.places;
-    let at = behind_claims(n, counts.transitions, i.0 - 1);
-    let end = at + 4 + n;
-    &sheet[at..end]
 }

@@ -1,7 +1,7 @@
 // A list fired in one call: 02, req 01. A worker's trace is pasted whole, and moves the marking as its single steps would.
 ghost use mathlib.Core.Path.{_≡_};
 ghost use Rattle.format.specs.Reading.{reading};
-ghost use Rattle.sheet.specs.Known.{Known};
+ghost use Rattle.known.specs.Known.{Known};
 ghost use Rattle.traces.specs.Traces.{firedList, listOf};
 use reader::Counts;
 use reader::Reading;

@@ -8,7 +8,7 @@ ghost use Rattle.nets.specs.Reduced.{IsReduced};
 ghost use Rattle.format.specs.Read.{sound};
 ghost use Rattle.format.specs.Contents.{Contents, halfSpace, claim};
 ghost use Rattle.format.specs.Reading.{reading};
-ghost use Rattle.sheet.specs.Known.{Known};
+ghost use Rattle.known.specs.Known.{Known};
 ghost use Rattle.reduction.specs.Divisors.{spaceOf};
 ghost use Rattle.twins.specs.Answers.{noForm, IsReducedOf, IsTwinNumber, IsTwinOf};
 use layout::behind_claims;

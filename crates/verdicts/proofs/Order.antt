@@ -6,7 +6,7 @@ use Rattle.terms.specs.Refusals.{notAClaim, smallArea}
 use Rattle.terms.specs.declared.Claim.{Claim}
 use Rattle.reader.specs.declared.Counts.{Counts}
 use Rattle.terms.specs.declared.Check.the-variants.{Fine}
-use Rattle.sheet.proofs.Taken.{among-some}
+use Rattle.known.proofs.Taken.{among-some}
 use Rattle.pairs.proofs.Order.{held-so, both-fit}
 use Rattle.verdicts.specs.Judged.{countedCheck}
 

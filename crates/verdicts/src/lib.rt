@@ -7,7 +7,7 @@ ghost use Rattle.format.specs.Read.{sound};
 ghost use Rattle.format.specs.Contents.{Contents, halfSpace, claim};
 ghost use Rattle.format.specs.Reading.{reading};
 ghost use Rattle.pairs.specs.Pairs.{areaAfter};
-ghost use Rattle.sheet.specs.Known.{Known};
+ghost use Rattle.known.specs.Known.{Known};
 ghost use Rattle.judged.specs.Judges.{Judges};
 ghost use Rattle.verdicts.specs.Judged.{IsJudged, countedCheck, verdictCheck};
 use judged::Answer;

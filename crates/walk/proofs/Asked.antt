@@ -16,9 +16,9 @@ use Rattle.format.specs.Reading.{bytes, transitionSize, transitionsFrom, readin
 use Rattle.format.proofs.Standing.{length-bytes}
 use Rattle.reader.specs.declared.Counts.{Counts}
 use Rattle.terms.specs.declared.Check.the-variants.{Fine, Refused}
-use Rattle.sheet.specs.Known.{Known}
-use Rattle.sheet.proofs.Taken.{among-some}
-use Rattle.sheet.proofs.Known as known
+use Rattle.known.specs.Known.{Known}
+use Rattle.known.proofs.Taken.{among-some}
+use Rattle.known.proofs.Known as known
 use Rattle.firing.specs.Firing.{firedIn}
 use Rattle.walk.specs.Walk.{first, firingChecks, moved, firingOf, stepOf}
 use Rattle.firing.specs.Weighted.{weighted}

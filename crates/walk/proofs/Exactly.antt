@@ -22,8 +22,8 @@ use Rattle.format.specs.Formed.{FormedTransition, FormedSetting}
 use Rattle.format.proofs.Sound.{places-fit}
 use Rattle.terms.specs.declared.Check.{Check}
 use Rattle.terms.specs.declared.Check.the-variants.{Fine, Refused}
-use Rattle.sheet.proofs.Known.{all-at}
-use Rattle.sheet.proofs.Taken.{among-some}
+use Rattle.known.proofs.Known.{all-at}
+use Rattle.known.proofs.Taken.{among-some}
 use Rattle.firing.specs.Firing.{isShort, isOver, lowestShort, lowestOver}
 use Rattle.walk.specs.Walk.{first, firingChecks, stepOf}
 use Rattle.walk.specs.declared.Marking.{Marking}

@@ -2,7 +2,7 @@
 ghost use mathlib.Core.Path.{_≡_};
 ghost use Prim.Native.Nat.{_≤_};
 ghost use Rattle.format.specs.Reading.{reading};
-ghost use Rattle.sheet.specs.Known.{Known};
+ghost use Rattle.known.specs.Known.{Known};
 ghost use Rattle.walk.specs.Walk.{beginOf, firingOf, stepOf};
 ghost use Rattle.firing.specs.Weighted.{weighted};
 use firing::fired;

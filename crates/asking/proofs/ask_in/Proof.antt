@@ -10,10 +10,10 @@ use Rattle.nets.specs.HalfSpaces as spaces
 use Rattle.format.specs.Contents.{Contents, halfSpace, claim}
 use Rattle.format.specs.Reading.{transitionIn}
 use Rattle.format.proofs.ClaimRecord.{sheet-of}
-use Rattle.sheet.proofs.Known.{same-contents, limits, claim-whole, transition-is, space-is}
+use Rattle.known.proofs.Known.{same-contents, limits, claim-whole, transition-is, space-is}
 use Rattle.values.specs.Ready.{space}
 use Rattle.crossing.specs.Crosses.{Crosses}
-use Rattle.sheet.proofs.Asking.{numbers-fit, ready}
+use Rattle.known.proofs.Asking.{numbers-fit, ready}
 use borrow.Author.Needs.{needs}
 use Rattle.asking.proofs.ask_in.Statement.{statement}
 use Rattle.asking.proofs.ask_in.Tie as tie

@@ -8,8 +8,8 @@ use Rattle.format.specs.Read.{sound}
 use Rattle.format.specs.Contents.{Contents}
 use Rattle.format.specs.Reading.{reading}
 use Rattle.reader.specs.declared.Counts.{Counts}
-use Rattle.sheet.specs.Known.{Known}
-use Rattle.sheet.proofs.Known.{same-contents, limits}
+use Rattle.known.specs.Known.{Known}
+use Rattle.known.proofs.Known.{same-contents, limits}
 use Rattle.text.specs.Bytes.{Wrote, chars, decimal}
 use Rattle.text.proofs.Writing.{wrote-then, wrote-nothing}
 use Rattle.phrases.specs.Phrases.{newline, countsLine}

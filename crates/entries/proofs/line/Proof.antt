@@ -6,7 +6,7 @@ use native.Mathlib.Omega.{arith}
 use lib.ListN.{take}
 use Rattle.format.specs.Contents.{Contents, halfSpace, claim}
 use Rattle.format.proofs.ClaimRecord.{sheet-of}
-use Rattle.sheet.proofs.Known.{same-contents, limits}
+use Rattle.known.proofs.Known.{same-contents, limits}
 use Rattle.text.specs.Bytes.{Wrote, chars, decimal}
 use Rattle.judged.specs.declared.Judged.{Judged}
 use Rattle.phrases.specs.Phrases.{newline, twinText}

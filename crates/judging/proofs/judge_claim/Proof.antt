@@ -8,9 +8,9 @@ use mir.Facts.{toZ-ofZ}
 use Rattle.nets.specs.HalfSpaces as spaces
 use Rattle.format.specs.Contents.{Contents, halfSpace, claim}
 use Rattle.format.proofs.ClaimRecord.{sheet-of}
-use Rattle.sheet.proofs.Known.{same-contents, limits, claim-whole, space-is}
+use Rattle.known.proofs.Known.{same-contents, limits, claim-whole, space-is}
 use Rattle.values.specs.Ready.{space}
-use Rattle.sheet.proofs.Asking.{numbers-fit}
+use Rattle.known.proofs.Asking.{numbers-fit}
 use Rattle.judged.specs.Judges.{Judges}
 use borrow.Author.Needs.{needs}
 use Rattle.judging.proofs.judge_claim.Statement.{statement}

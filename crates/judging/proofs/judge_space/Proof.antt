@@ -14,11 +14,11 @@ use Rattle.format.specs.Contents.{Contents}
 use Rattle.format.specs.Read.{sound}
 use Rattle.format.specs.Reading.{transitionIn, reading}
 use Rattle.format.proofs.ClaimRecord.{sheet-of}
-use Rattle.sheet.proofs.Known.{same-contents, limits, transition-is, start-whole, start-is, target-whole, target-is, transitions-count}
+use Rattle.known.proofs.Known.{same-contents, limits, transition-is, start-whole, start-is, target-whole, target-is, transitions-count}
 use Rattle.tables.specs.Told.{Says}
 use Rattle.values.specs.Ready.{space}
 use Rattle.crossing.specs.Crosses.{Crosses}
-use Rattle.sheet.proofs.Asking.{ready}
+use Rattle.known.proofs.Asking.{ready}
 use Rattle.inside.proofs.Said.{holds, fails}
 use Rattle.lowest.specs.Lowest.{FirstBroken}
 use Rattle.judged.specs.declared.Answer.the-variants as answers

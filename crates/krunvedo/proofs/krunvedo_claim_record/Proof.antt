@@ -3,8 +3,8 @@ use mathlib.Core.Path.{_∙_, ap, ap₂}
 use Prim.Native.Nat.{ℕ}
 use lib.ListN.{length}
 use Rattle.format.specs.Reading.{reading}
-use Rattle.sheet.specs.Held.{claimCheck}
-use Rattle.sheet.specs.Part.{recordAt}
+use Rattle.claims.specs.Held.{claimCheck}
+use Rattle.claims.specs.Part.{recordAt}
 use Rattle.numbers.specs.declared.Refused as refused
 use Rattle.numbers.specs.declared.Record.{Record}
 use Rattle.numbers.specs.Numbers.{checkIs}

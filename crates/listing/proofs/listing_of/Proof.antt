@@ -9,7 +9,7 @@ use Rattle.format.specs.Reading.{reading}
 use Rattle.reader.specs.Answers.{IsMalformed}
 use Rattle.terms.specs.declared.Check.{Check}
 use Rattle.terms.specs.declared.Check.the-variants.{Fine, Refused}
-use Rattle.sheet.proofs.Taken.{sound-answer, refused-answer}
+use Rattle.known.proofs.Taken.{sound-answer, refused-answer}
 use Rattle.pairs.specs.Pairs.{areaAfter}
 use Rattle.text.proofs.Writing.{length-written, whole}
 use Rattle.listing.specs.declared.Listed.the-variants as listed

@@ -4,7 +4,7 @@ use mathlib.Core.List.{List, _++_}
 use Prim.Native.Nat.{ℕ, _≤_}
 use lib.ListN.{length, take, drop}
 use lib.Seq.{length-take-le}
-use Rattle.sheet.specs.Known.{Known}
+use Rattle.known.specs.Known.{Known}
 use Rattle.lent.proofs.Lent.{lent-length, lent-enough, lent-wiped}
 use Rattle.listing.proofs.written.Statement.{statement}
 use Rattle.listing.proofs.written.Tie as tie

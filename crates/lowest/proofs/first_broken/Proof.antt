@@ -12,10 +12,10 @@ use Rattle.format.specs.Read.{sound}
 use Rattle.format.specs.Contents.{Contents}
 use Rattle.format.specs.Reading.{reading, transitionIn, transitionsFrom, transitionSize}
 use Rattle.format.proofs.ClaimRecord.{sheet-of}
-use Rattle.sheet.proofs.Known.{same-contents, limits, transition-is, transitions-count}
+use Rattle.known.proofs.Known.{same-contents, limits, transition-is, transitions-count}
 use Rattle.residues.specs.Asked.{IsBroken}
 use Rattle.values.specs.Ready.{space}
-use Rattle.sheet.proofs.Asking.{ready}
+use Rattle.known.proofs.Asking.{ready}
 use Rattle.lowest.specs.Lowest.{FirstBroken}
 use Rattle.lowest.proofs.Lowest.{KeptTo, none-yet, one-more, all-kept, found-so, within}
 use Rattle.lowest.proofs.first_broken.Statement.{statement}

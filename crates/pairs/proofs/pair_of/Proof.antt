@@ -14,7 +14,7 @@ use Rattle.reader.specs.Answers.{IsMalformed, countsOf}
 use Rattle.reader.specs.declared.Counts.{Counts}
 use Rattle.terms.specs.declared.Check.{Check}
 use Rattle.terms.specs.declared.Check.the-variants.{Fine, Refused}
-use Rattle.sheet.proofs.Taken.{sound-answer, refused-answer}
+use Rattle.known.proofs.Taken.{sound-answer, refused-answer}
 use Rattle.pairs.specs.declared.Pair.{Pair}
 use Rattle.pairs.specs.declared.Answer.the-variants.{Kept, Broken}
 use Rattle.crossing.specs.Crosses.{Crosses}

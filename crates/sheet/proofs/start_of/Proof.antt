@@ -10,7 +10,7 @@ use Rattle.reader.specs.Answers.{checkOf}
 use Rattle.terms.specs.declared.Check.the-variants.{Fine}
 use Rattle.sheet.specs.Held.{noStart, startOf}
 use Rattle.sheet.specs.declared.Start.{Start}
-use Rattle.sheet.proofs.Taken.{sound-answer, refused-answer, most, start-fits, start-taken}
+use Rattle.known.proofs.Taken.{sound-answer, refused-answer, most, start-fits, start-taken}
 use borrow.Author.Needs.{needs}
 use Rattle.sheet.proofs.start_of.Statement.{statement}
 use Rattle.sheet.proofs.start_of.Tie as tie

@@ -17,7 +17,7 @@ use Rattle.reader.specs.Answers.{checkOf}
 use Rattle.terms.specs.declared.Check.the-variants.{Fine}
 use Rattle.sheet.specs.Held.{kindIs, noTarget, targetOf}
 use Rattle.sheet.specs.declared.Target.{Target}
-use Rattle.sheet.proofs.Taken.{sound-answer, refused-answer, most, target-fits, target-taken}
+use Rattle.known.proofs.Taken.{sound-answer, refused-answer, most, target-fits, target-taken}
 use borrow.Author.Needs.{needs}
 use Rattle.sheet.proofs.target_of.Statement.{statement}
 use Rattle.sheet.proofs.target_of.Tie as tie

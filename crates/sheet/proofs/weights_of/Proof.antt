@@ -17,7 +17,7 @@ use Rattle.reader.specs.Answers.{checkOf}
 use Rattle.terms.specs.declared.Check.the-variants.{Fine, Refused}
 use Rattle.sheet.specs.Held.{noWeights, weightsIn, weightsOf}
 use Rattle.sheet.specs.declared.Weights.{Weights}
-use Rattle.sheet.proofs.Taken.{sound-answer, refused-answer, among-some, tc-is, most, weights-fit, weights-taken}
+use Rattle.known.proofs.Taken.{sound-answer, refused-answer, among-some, tc-is, most, weights-fit, weights-taken}
 use borrow.Author.Needs.{needs}
 use Rattle.sheet.proofs.weights_of.Statement.{statement}
 use Rattle.sheet.proofs.weights_of.Tie as tie

@@ -6,7 +6,7 @@ use Rattle.terms.specs.declared.Refusal.{Refusal}
 use Rattle.terms.specs.declared.Check.the-variants.{Refused}
 use Rattle.format.specs.Reading.{reading}
 use Rattle.reader.specs.Answers.{checkOf}
-use Rattle.sheet.proofs.Taken.{sound-answer, refused-answer}
+use Rattle.known.proofs.Taken.{sound-answer, refused-answer}
 use Rattle.traces.specs.Traces.{traced, listOf}
 use Rattle.traces.proofs.Order.{long-refused, short-fired}
 use borrow.Author.Needs.{needs}

@@ -16,7 +16,7 @@ use Rattle.reduction.specs.Divisors.{spaceOf}
 use Rattle.multiples.specs.Multiples.{Tells, IsMultiple, IsPivot}
 use Rattle.twins.specs.Answers.{NoTwinBefore}
 use Rattle.multiples.proofs.Scaled.{told-twins}
-use Rattle.sheet.proofs.Known.{same-contents, limits, claim-whole, claim-is}
+use Rattle.known.proofs.Known.{same-contents, limits, claim-whole, claim-is}
 use Rattle.twins.proofs.Earlier.{no-twin-more, no-twin-yet, twin-number}
 use borrow.Author.Needs.{needs}
 use Rattle.twins.proofs.first_twin.Statement.{statement}

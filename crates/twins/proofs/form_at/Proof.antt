@@ -7,7 +7,7 @@ use mir.Facts.{toZ-ofZ}
 use Rattle.nets.specs.HalfSpaces.{HalfSpace}
 use Rattle.nets.specs.Reduced.{IsReduced}
 use Rattle.format.specs.Contents.{Contents, halfSpace, claim}
-use Rattle.sheet.proofs.Known.{same-contents, limits, claim-whole, space-is}
+use Rattle.known.proofs.Known.{same-contents, limits, claim-whole, space-is}
 use Rattle.reduction.specs.Divisors.{spaceOf}
 use borrow.Author.Needs.{needs}
 use Rattle.twins.proofs.form_at.Statement.{statement}

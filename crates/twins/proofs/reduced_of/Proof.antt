@@ -14,8 +14,8 @@ use Rattle.format.proofs.Places.{held}
 use Rattle.reader.specs.Answers.{checkOf}
 use Rattle.terms.specs.declared.Check.{Check}
 use Rattle.terms.specs.declared.Check.the-variants.{Fine, Refused}
-use Rattle.sheet.specs.Held.{claimCheck}
-use Rattle.sheet.proofs.Taken.{sound-answer, refused-answer, among-some, c-is}
+use Rattle.claims.specs.Held.{claimCheck}
+use Rattle.known.proofs.Taken.{sound-answer, refused-answer, among-some, c-is}
 use Rattle.nets.specs.HalfSpaces.{HalfSpace}
 use lib.IntN.{ℤ}
 use mir.Syntax.{w16}

@@ -13,8 +13,8 @@ use Rattle.format.proofs.Places.{held}
 use Rattle.reader.specs.Answers.{IsMalformed}
 use Rattle.terms.specs.declared.Check.{Check}
 use Rattle.terms.specs.declared.Check.the-variants.{Fine, Refused}
-use Rattle.sheet.specs.Held.{claimCheck}
-use Rattle.sheet.proofs.Taken.{sound-answer, refused-answer, among-some, c-is}
+use Rattle.claims.specs.Held.{claimCheck}
+use Rattle.known.proofs.Taken.{sound-answer, refused-answer, among-some, c-is}
 use Rattle.twins.specs.declared.Twin.the-variants as twins
 use Rattle.twins.specs.Answers.{IsTwinNumber, IsTwinIn, IsTwinOf}
 use Rattle.twins.proofs.Earlier.{number-twin}

@@ -10,7 +10,7 @@ use Rattle.reader.specs.Answers.{IsMalformed, countsOf}
 use Rattle.reader.specs.declared.Counts.{Counts}
 use Rattle.terms.specs.declared.Check.{Check}
 use Rattle.terms.specs.declared.Check.the-variants.{Fine, Refused}
-use Rattle.sheet.proofs.Taken.{sound-answer, refused-answer}
+use Rattle.known.proofs.Taken.{sound-answer, refused-answer}
 use Rattle.pairs.specs.Pairs.{areaAfter}
 use Rattle.verdicts.specs.Judged.{IsJudged, IsJudgedIn, countedCheck, verdictCheck}
 use Rattle.verdicts.proofs.Order.{passed-all}

@@ -1,4 +1,0 @@
-pub mod Taken
-pub mod Parts
-pub mod Known
-pub mod Asking
