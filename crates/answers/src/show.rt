@@ -3,7 +3,7 @@ use shown::number;
 use shown::refusal;
 use shown::say;
 use shown::tokens;
-use terms::Check;
+use refusals::Check;
 use terms::Claim;
 use terms::Kind;
 use terms::Place;

@@ -4,13 +4,13 @@ use Prim.Native.Nat.{ℕ}
 use lib.IntN.{pos}
 use lib.ListN.{length}
 use Rattle.terms.specs.Limits.{among}
-use Rattle.terms.specs.Refusals.{notAClaim}
+use Rattle.refusals.specs.Refusals.{notAClaim}
 use Rattle.terms.specs.declared.Claim.{Claim}
 use Rattle.nets.specs.HalfSpaces.{sixteen}
 use Rattle.format.specs.Read.{Read, sound, refused, choose}
 use Rattle.format.specs.Contents.{Contents, halfSpace, claim}
-use Rattle.terms.specs.declared.Check.{Check}
-use Rattle.terms.specs.declared.Check.the-variants.{Fine, Refused}
+use Rattle.refusals.specs.declared.Check.{Check}
+use Rattle.refusals.specs.declared.Check.the-variants.{Fine, Refused}
 use Rattle.claims.specs.declared.HalfSpace.{HalfSpace}
 
 -- 11: claim number 0 or above the count

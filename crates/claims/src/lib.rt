@@ -7,10 +7,10 @@ use layout::behind_claims;
 use reader::Reading;
 use reader::read;
 use rows::numbers_at;
-use terms::Check;
+use refusals::Check;
 use terms::Claim;
 use terms::Place;
-use terms::Refusal;
+use refusals::Refusal;
 use terms::among;
 
 pub struct HalfSpace {

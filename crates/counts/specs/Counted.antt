@@ -3,8 +3,8 @@ use Prim.Native.Nat.{ℕ}
 use lib.ListN.{length}
 use Rattle.format.specs.Read.{Read, sound, refused}
 use Rattle.format.specs.Contents.{Contents}
-use Rattle.terms.specs.declared.Check.{Check}
-use Rattle.terms.specs.declared.Check.the-variants.{Fine, Refused}
+use Rattle.refusals.specs.declared.Check.{Check}
+use Rattle.refusals.specs.declared.Check.the-variants.{Fine, Refused}
 use Rattle.counts.specs.declared.Count.{Count}
 
 abbrev pub noCount : Check → Count

@@ -4,7 +4,7 @@ ghost use Rattle.format.specs.Reading.{reading};
 ghost use Rattle.counts.specs.Counted.{noCount, howManyPlaces, howManyTransitions, howManyClaims};
 use reader::Reading;
 use reader::read;
-use terms::Check;
+use refusals::Check;
 
 // The count is 0 where the sheet is refused.
 pub struct Count {

@@ -3,14 +3,14 @@ use mathlib.Core.Path.{_≡_, refl, sym, ap, _∙_}
 use mathlib.Core.List.{List}
 use Prim.Native.Nat.{ℕ, _+_, _≤_}
 use lib.ListN.{length}
-use Rattle.terms.specs.declared.Refusal.{Refusal}
+use Rattle.refusals.specs.declared.Refusal.{Refusal}
 use Rattle.format.specs.Read.{Read, sound, refused, _>>=_, _>>_}
 use Rattle.format.specs.Reading.{wholeAt, openedAt}
 use Rattle.format.proofs.Sound.{whole-sound, opened-sound}
 use Rattle.fields.specs.Checked.{checked}
-use Rattle.terms.proofs.Outcomes.{fine-not-refused}
-use Rattle.terms.specs.declared.Check.{Check}
-use Rattle.terms.specs.declared.Check.the-variants.{Fine, Refused}
+use Rattle.refusals.proofs.Outcomes.{fine-not-refused}
+use Rattle.refusals.specs.declared.Check.{Check}
+use Rattle.refusals.specs.declared.Check.the-variants.{Fine, Refused}
 
 pub fine : {A : Type 0} (x : Read A) → checked x ≡ Fine → (a : A) × (x ≡ sound a)
 fine (sound a) e = (a, refl)

@@ -4,7 +4,7 @@ use mathlib.Core.Bool.{Bool, true, false}
 use mathlib.Core.List.{List}
 use Prim.Native.Nat.{ℕ, suc, _+_, _-_, _≤_, _<_}
 use native.Mathlib.Omega.{arith}
-use Rattle.terms.specs.Refusals.{refusedAt}
+use Rattle.refusals.specs.Refusals.{refusedAt}
 use Rattle.format.specs.Read.{sound, refused}
 use Rattle.format.specs.Reading.{byte, eachFits}
 

@@ -4,14 +4,14 @@ ghost use Prim.Native.Nat.{_+_, _≤_};
 ghost use lib.ListN.{length};
 ghost use Rattle.signed.specs.Twos.{twos8};
 ghost use Rattle.terms.specs.Limits.{weightFits, coefficientFits, constantFits};
-ghost use Rattle.terms.specs.Refusals.{refusedAt};
+ghost use Rattle.refusals.specs.Refusals.{refusedAt};
 ghost use Rattle.format.specs.Read.{need};
 ghost use Rattle.format.specs.Reading.{markedAt, wholeAt, openedAt, eachFits, signedWord};
 ghost use Rattle.fields.specs.Checked.{checked};
-use terms::Check;
+use refusals::Check;
 use terms::Coefficient;
 use terms::Constant;
-use terms::Refusal;
+use refusals::Refusal;
 use terms::Weight;
 
 pub fn refuse(number: u8, at: usize) -> Check

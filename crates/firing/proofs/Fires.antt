@@ -11,7 +11,7 @@ use Rattle.nets.specs.Nets.{Transition, Marking, _⊟_, fire}
 use Rattle.nets.proofs.Vectors.{length-plus, getD-plus, length-minus, getD-minus}
 use borrow.Author.Tests.{lt-ltb, le-ltb, ltb-false}
 use Rattle.terms.specs.Limits.{mostTokens}
-use Rattle.terms.specs.declared.Check.the-variants.{Fine}
+use Rattle.refusals.specs.declared.Check.the-variants.{Fine}
 use Rattle.firing.specs.Firing.{isShort, isOver, lowestShort, lowestOver, firedIn}
 use Rattle.firing.specs.Weighted.{weighted}
 use Rattle.firing.proofs.Lowest.{none-found}

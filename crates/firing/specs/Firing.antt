@@ -5,13 +5,13 @@ use Prim.Native.Nat.{ℕ, zero, suc, _+_}
 use lib.Dec.{ltb}
 use lib.ListN.{getD, take, drop}
 use Rattle.terms.specs.Limits.{mostTokens}
-use Rattle.terms.specs.Refusals.{notEnabled, tooMany}
+use Rattle.refusals.specs.Refusals.{notEnabled, tooMany}
 use Rattle.terms.specs.declared.Place.{Place}
-use Rattle.terms.specs.declared.Refusal.{Refusal}
+use Rattle.refusals.specs.declared.Refusal.{Refusal}
 use Rattle.nets.specs.Nets as nets
 use Rattle.format.specs.Read.{choose}
-use Rattle.terms.specs.declared.Check.{Check}
-use Rattle.terms.specs.declared.Check.the-variants.{Fine, Refused}
+use Rattle.refusals.specs.declared.Check.{Check}
+use Rattle.refusals.specs.declared.Check.the-variants.{Fine, Refused}
 
 -- Of the k places that follow the first p, the lowest for which the test holds is refused. Places are numbered from 1, so it has the number p + 1.
 unfoldable pub lowest : (ℕ → Bool) → (Place → Refusal) → ℕ → ℕ → Check

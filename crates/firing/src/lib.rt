@@ -3,12 +3,12 @@ ghost use mathlib.Core.Path.{_≡_};
 ghost use Prim.Native.Nat.{_≤_};
 ghost use lib.ListN.{take};
 ghost use Rattle.nets.specs.Nets.{fire};
-ghost use Rattle.terms.specs.declared.Check.the-variants.{Fine};
+ghost use Rattle.refusals.specs.declared.Check.the-variants.{Fine};
 ghost use Rattle.firing.specs.Firing.{lowestShort, lowestOver, firedIn};
 ghost use Rattle.firing.specs.Weighted.{weighted};
-use terms::Check;
+use refusals::Check;
 use terms::Place;
-use terms::Refusal;
+use refusals::Refusal;
 use terms::wide;
 
 // The lowest place that has fewer tokens than are taken.

@@ -7,7 +7,7 @@ use native.Mathlib.Omega.{arith}
 use lib.Dec.{leb}
 use lib.ListN.{length, length-append}
 use borrow.Author.Tests.{leb-false, lt-leb}
-use Rattle.terms.specs.Refusals.{noClaim}
+use Rattle.refusals.specs.Refusals.{noClaim}
 use Rattle.terms.specs.Limits.{mostClaims}
 use Rattle.nets.specs.Nets.{Transition}
 use Rattle.nets.specs.Verdicts.{Setting}

@@ -10,7 +10,7 @@ use lib.ListN.{length, take, length-take}
 use lib.Seq.{getD-take}
 use borrow.Author.Tests.{leb-true, leb-false, le-leb, lt-leb}
 use Rattle.terms.specs.Limits.{weightFits, coefficientFits, mostClaims}
-use Rattle.terms.specs.Refusals.{noClaim}
+use Rattle.refusals.specs.Refusals.{noClaim}
 use Rattle.signed.specs.Twos.{twos8}
 use Rattle.format.specs.Read.{Read, sound, refused, _>>=_, choose}
 use Rattle.format.specs.Reading.{byte, bytes, words, markedAt, wholeAt, openedAt, eachFits, headSize, transitionSize, startSize, targetSize, claimSize, Size, headOf, transitionAt, transitionsAt, startAt, targetAt, claimAt, claimDue, claimsAt, transitionsFrom, startFrom, targetFrom, claimsFrom, settingOf, claimsOf, reading}

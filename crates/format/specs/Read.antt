@@ -1,8 +1,8 @@
 -- Reading a part of a sheet gives what it holds, or the refusal of its first fault.
 use mathlib.Core.Bool.{Bool, true, false}
 use Prim.Native.Nat.{ℕ}
-use Rattle.terms.specs.Refusals.{refusedAt}
-use Rattle.terms.specs.declared.Refusal.{Refusal}
+use Rattle.refusals.specs.Refusals.{refusedAt}
+use Rattle.refusals.specs.declared.Refusal.{Refusal}
 
 pub data Read (A : Type 0) : Type 0 where
   sound : A → Read A

@@ -7,7 +7,7 @@ use lib.IntN.{ℤ}
 use lib.ListN.{length, getD}
 use Rattle.signed.specs.Twos.{twos8, twos16}
 use Rattle.terms.specs.Limits.{placesFit, transitionsFit, weightFits, coefficientFits, constantFits, kindFits, mostClaims}
-use Rattle.terms.specs.Refusals.{noClaim}
+use Rattle.refusals.specs.Refusals.{noClaim}
 use Rattle.nets.specs.Nets.{Marking, Transition}
 use Rattle.nets.specs.Verdicts.{Kind, exact, atOrAbove, Target, Setting}
 use Rattle.format.specs.Read.{Read, sound, refused, _>>=_, _>>_, need, choose}

@@ -2,7 +2,7 @@
 ghost use mathlib.Core.Path.{_≡_};
 ghost use Rattle.judged.specs.Judges.{plainJudged};
 use terms::Place;
-use terms::Refusal;
+use refusals::Refusal;
 use terms::Transition;
 
 // The four verdicts in their order, or a refusal. Broken names the lowest transition that breaks the claim.

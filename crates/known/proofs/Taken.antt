@@ -11,7 +11,7 @@ use lib.ListN.{length, take, drop}
 use borrow.Author.Tests.{leb-true}
 use Rattle.terms.specs.Limits.{among}
 use Rattle.format.proofs.Sound.{cond-true}
-use Rattle.terms.specs.declared.Refusal.{Refusal}
+use Rattle.refusals.specs.declared.Refusal.{Refusal}
 use Rattle.format.specs.Read.{Read, sound, refused}
 use Rattle.nets.specs.Nets.{transition, none}
 use Rattle.format.specs.Contents.{Contents, claim, no-claim}

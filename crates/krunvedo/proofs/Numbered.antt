@@ -8,18 +8,18 @@ use lib.Dec.{leb, ltb, eqb}
 use lib.ListN.{length, take}
 use Rattle.signed.specs.Twos.{twos8}
 use Rattle.terms.specs.Limits.{among, areasFit, textSize, placesFit, transitionsFit, weightFits, coefficientFits, constantFits, kindFits, mostClaims}
-use Rattle.terms.specs.Refusals.{noClaim, notAClaim, notATransition, smallArea, smallText, notEnabled, tooMany}
+use Rattle.refusals.specs.Refusals.{noClaim, notAClaim, notATransition, smallArea, smallText, notEnabled, tooMany}
 use Rattle.terms.specs.declared.Claim.{Claim}
 use Rattle.terms.specs.declared.Place.{Place}
-use Rattle.terms.specs.declared.Refusal.{Refusal}
+use Rattle.refusals.specs.declared.Refusal.{Refusal}
 use Rattle.terms.specs.declared.Transition.{Transition}
 use Rattle.nets.specs.Nets as nets
 use Rattle.format.specs.Read.{Read, sound, refused, _>>=_, _>>_, need, choose}
 use Rattle.format.specs.Contents.{Contents}
 use Rattle.format.specs.Reading.{byte, signedWord, markedAt, wholeAt, openedAt, eachFits, headSize, transitionSize, startSize, targetSize, claimSize, Size, headOf, transitionAt, transitionsAt, startAt, targetAt, claimAt, claimDue, claimsAt, transitionsFrom, startFrom, targetFrom, claimsFrom, settingOf, claimsOf, reading}
 use Rattle.fields.specs.Checked.{checked}
-use Rattle.terms.specs.declared.Check.{Check}
-use Rattle.terms.specs.declared.Check.the-variants.{Fine, Refused}
+use Rattle.refusals.specs.declared.Check.{Check}
+use Rattle.refusals.specs.declared.Check.the-variants.{Fine, Refused}
 use Rattle.sheet.specs.Held.{transitionCheck, weightsOf, weightsIn, noWeights}
 use Rattle.claims.specs.Held.{claimCheck}
 use Rattle.pairs.specs.Pairs.{pairCheck}

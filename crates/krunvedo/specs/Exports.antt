@@ -5,7 +5,7 @@ use Prim.Native.Nat.{ℕ}
 use lib.Dec.{leb}
 use lib.ListN.{length, drop}
 use Rattle.terms.specs.Limits.{textSize}
-use Rattle.terms.specs.Refusals.{smallText}
+use Rattle.refusals.specs.Refusals.{smallText}
 use Rattle.terms.specs.declared.Claim.{Claim}
 use Rattle.terms.specs.declared.Transition.{Transition}
 use Rattle.format.specs.Read.{Read, choose}

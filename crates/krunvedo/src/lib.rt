@@ -38,7 +38,7 @@ use numbers::written_number;
 use parts::record_from;
 use terms::Claim;
 use terms::Place;
-use terms::Refusal;
+use refusals::Refusal;
 use terms::Transition;
 use walk::Marking;
 

@@ -7,13 +7,13 @@ use native.Mathlib.Omega.{arith}
 use lib.Dec.{leb}
 use lib.ListN.{length}
 use Rattle.terms.specs.Limits.{textSize}
-use Rattle.terms.specs.declared.Refusal.{Refusal}
+use Rattle.refusals.specs.declared.Refusal.{Refusal}
 use Rattle.nets.specs.Verdicts.{Verdict, start-outside, target-inside, broken, proof, IsVerdict, SameBut}
 use Rattle.nets.proofs.OneVerdict.{one-verdict}
 use Rattle.format.specs.Read.{Read, sound, refused}
 use Rattle.format.specs.Contents.{Contents, halfSpace, claim}
-use Rattle.terms.specs.declared.Check.{Check}
-use Rattle.terms.specs.declared.Check.the-variants.{Fine, Refused}
+use Rattle.refusals.specs.declared.Check.{Check}
+use Rattle.refusals.specs.declared.Check.the-variants.{Fine, Refused}
 use Rattle.twins.proofs.OneAnswer.{one-number}
 use Rattle.lines.specs.Lines.{claimLine}
 use Rattle.entries.specs.Entries.{IsLine, AreLines, IsListing, countsOfSheet}

@@ -4,8 +4,8 @@ use Prim.Native.Nat.{ℕ, _≤_}
 use lib.Dec.{leb}
 use borrow.Author.Tests.{leb-true}
 use Rattle.terms.specs.Limits.{areasFit, textSize}
-use Rattle.terms.specs.Refusals.{smallArea, smallText}
-use Rattle.terms.specs.declared.Check.the-variants.{Fine}
+use Rattle.refusals.specs.Refusals.{smallArea, smallText}
+use Rattle.refusals.specs.declared.Check.the-variants.{Fine}
 use Rattle.pairs.proofs.Order.{held-so, both-fit}
 use Rattle.listing.specs.Listed.{roomCheck}
 

@@ -6,12 +6,12 @@ use Prim.Native.Nat.{ℕ}
 use lib.ListN.{length, drop}
 use lib.Dec.{leb}
 use Rattle.terms.specs.Limits.{areasFit, textSize}
-use Rattle.terms.specs.Refusals.{smallArea, smallText}
-use Rattle.terms.specs.declared.Refusal.{Refusal}
+use Rattle.refusals.specs.Refusals.{smallArea, smallText}
+use Rattle.refusals.specs.declared.Refusal.{Refusal}
 use Rattle.format.specs.Read.{Read, sound, refused, choose}
 use Rattle.format.specs.Contents.{Contents}
-use Rattle.terms.specs.declared.Check.{Check}
-use Rattle.terms.specs.declared.Check.the-variants.{Fine, Refused}
+use Rattle.refusals.specs.declared.Check.{Check}
+use Rattle.refusals.specs.declared.Check.the-variants.{Fine, Refused}
 use Rattle.phrases.specs.Phrases.{refusalLine}
 use Rattle.entries.specs.Entries.{IsListing}
 use Rattle.listing.specs.declared.Listed.{Listed}

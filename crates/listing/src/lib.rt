@@ -19,8 +19,8 @@ use reader::Counts;
 use reader::Reading;
 use reader::read;
 use terms::Area;
-use terms::Check;
-use terms::Refusal;
+use refusals::Check;
+use refusals::Refusal;
 use terms::Text;
 
 // How long the text is, or a refusal.

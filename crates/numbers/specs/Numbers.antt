@@ -1,9 +1,9 @@
 -- The numbers that C gets for each answer. An enum's case is a number, and the numbers are set out here once.
 use Prim.Native.Nat.{ℕ}
-use Rattle.terms.specs.Refusals.{detailOf}
-use Rattle.terms.specs.declared.Refusal.{Refusal}
-use Rattle.terms.specs.declared.Check.{Check}
-use Rattle.terms.specs.declared.Check.the-variants.{Fine, Refused}
+use Rattle.refusals.specs.Refusals.{detailOf}
+use Rattle.refusals.specs.declared.Refusal.{Refusal}
+use Rattle.refusals.specs.declared.Check.{Check}
+use Rattle.refusals.specs.declared.Check.the-variants.{Fine, Refused}
 use Rattle.reader.specs.declared.Reading.{Reading}
 use Rattle.reader.specs.declared.Reading.the-variants.{Sound, Malformed}
 use Rattle.terms.specs.declared.Kind.{Kind}

@@ -3,10 +3,10 @@ ghost use mathlib.Core.Path.{_≡_};
 ghost use Rattle.numbers.specs.Numbers.{refusalIs, checkIs, readingIs, kindIs, twinIs, pairNumber, pairRefusal, listedIs, verdictNumber, verdictRefusal, verdictTransition};
 use listing::Listed;
 use reader::Reading;
-use terms::Check;
+use refusals::Check;
 use terms::Kind;
 use terms::Place;
-use terms::Refusal;
+use refusals::Refusal;
 use twins::Twin;
 
 // Both are 0 where nothing is refused.

@@ -6,14 +6,14 @@ use native.Mathlib.Omega.{arith}
 use lib.Dec.{leb}
 use borrow.Author.Tests.{leb-true}
 use Rattle.terms.specs.Limits.{among, areasFit}
-use Rattle.terms.specs.Refusals.{notAClaim, notATransition, smallArea}
-use Rattle.terms.specs.declared.Refusal.{Refusal}
+use Rattle.refusals.specs.Refusals.{notAClaim, notATransition, smallArea}
+use Rattle.refusals.specs.declared.Refusal.{Refusal}
 use Rattle.terms.specs.declared.Claim.{Claim}
 use Rattle.terms.specs.declared.Transition.{Transition}
 use Rattle.format.specs.Read.{choose}
 use Rattle.reader.specs.declared.Counts.{Counts}
-use Rattle.terms.specs.declared.Check.{Check}
-use Rattle.terms.specs.declared.Check.the-variants.{Fine, Refused}
+use Rattle.refusals.specs.declared.Check.{Check}
+use Rattle.refusals.specs.declared.Check.the-variants.{Fine, Refused}
 use Rattle.known.proofs.Taken.{among-some}
 use Rattle.pairs.specs.Pairs.{countedCheck}
 

@@ -9,8 +9,8 @@ use Rattle.nets.specs.HalfSpaces.{HalfSpace, Kept}
 use Rattle.format.specs.Read.{Read, sound, refused}
 use Rattle.format.specs.Contents.{Contents, halfSpace, claim}
 use Rattle.reader.specs.Answers.{countsOf}
-use Rattle.terms.specs.declared.Check.{Check}
-use Rattle.terms.specs.declared.Check.the-variants.{Fine, Refused}
+use Rattle.refusals.specs.declared.Check.{Check}
+use Rattle.refusals.specs.declared.Check.the-variants.{Fine, Refused}
 use Rattle.pairs.specs.declared.Answer.{Answer}
 use Rattle.pairs.specs.declared.Answer.the-variants as answers
 use Rattle.pairs.specs.declared.Pair.{Pair}

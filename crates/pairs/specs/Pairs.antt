@@ -4,7 +4,7 @@ use mathlib.Core.List.{List, [], _++_}
 use Prim.Native.Nat.{ℕ}
 use lib.ListN.{drop, replicate}
 use Rattle.terms.specs.Limits.{among, areasFit, areaSize}
-use Rattle.terms.specs.Refusals.{notAClaim, notATransition, smallArea}
+use Rattle.refusals.specs.Refusals.{notAClaim, notATransition, smallArea}
 use Rattle.terms.specs.declared.Claim.{Claim}
 use Rattle.terms.specs.declared.Transition.{Transition}
 use Rattle.nets.specs.Nets as nets
@@ -13,8 +13,8 @@ use Rattle.format.specs.Read.{Read, sound, refused, choose}
 use Rattle.format.specs.Contents.{Contents, halfSpace, claim}
 use Rattle.reader.specs.Answers.{countsOf}
 use Rattle.reader.specs.declared.Counts.{Counts}
-use Rattle.terms.specs.declared.Check.{Check}
-use Rattle.terms.specs.declared.Check.the-variants.{Fine, Refused}
+use Rattle.refusals.specs.declared.Check.{Check}
+use Rattle.refusals.specs.declared.Check.the-variants.{Fine, Refused}
 use Rattle.pairs.specs.declared.Answer.{Answer}
 use Rattle.pairs.specs.declared.Answer.the-variants as answers
 use Rattle.pairs.specs.declared.Pair.{Pair}

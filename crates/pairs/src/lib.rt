@@ -8,10 +8,10 @@ use reader::Counts;
 use reader::Reading;
 use reader::read;
 use terms::Area;
-use terms::Check;
+use refusals::Check;
 use terms::Claim;
 use terms::Place;
-use terms::Refusal;
+use refusals::Refusal;
 use terms::Transition;
 use terms::among;
 

@@ -1,8 +1,8 @@
 -- What a listing's lines are made of: document 01, "The listing". Fields are parted by one space, and each line ends with one newline byte.
 use mathlib.Core.List.{List, [], _∷_, _++_}
 use Prim.Native.Nat.{ℕ, zero, suc}
-use Rattle.terms.specs.Refusals.{detailOf}
-use Rattle.terms.specs.declared.Refusal.{Refusal}
+use Rattle.refusals.specs.Refusals.{detailOf}
+use Rattle.refusals.specs.declared.Refusal.{Refusal}
 use Rattle.text.specs.Bytes.{chars, decimal}
 
 abbrev pub newline : List ℕ

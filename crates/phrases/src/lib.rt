@@ -6,7 +6,7 @@ ghost use Rattle.text.specs.Bytes.{Wrote, chars, decimal};
 ghost use Rattle.phrases.specs.Phrases.{countsLine, refusedLine, refusalLine, tokensText, twinText};
 use reader::Counts;
 use terms::Place;
-use terms::Refusal;
+use refusals::Refusal;
 use text::labelled;
 use text::put;
 

@@ -4,7 +4,7 @@ use mathlib.Core.List.{List}
 use Prim.Native.Nat.{ℕ, _≤_}
 use native.Mathlib.Omega.{arith}
 use lib.ListN.{length}
-use Rattle.terms.specs.declared.Refusal.{Refusal}
+use Rattle.refusals.specs.declared.Refusal.{Refusal}
 use Rattle.nets.specs.Verdicts.{Setting}
 use Rattle.format.specs.Read.{Read, sound, refused}
 use Rattle.format.specs.Reading.{Size, sizeOf, headOf, settingOf, frontOf}
@@ -13,8 +13,8 @@ use Rattle.format.proofs.Places.{sizeIn, front-sound, setting-sound}
 use Rattle.fields.specs.Checked.{checked}
 use Rattle.records.specs.Sized.{sizedOf}
 use Rattle.reader.specs.Answers.{frontAnswer}
-use Rattle.terms.specs.declared.Check.{Check}
-use Rattle.terms.specs.declared.Check.the-variants.{Fine, Refused}
+use Rattle.refusals.specs.declared.Check.{Check}
+use Rattle.refusals.specs.declared.Check.the-variants.{Fine, Refused}
 use Rattle.records.specs.declared.Extent.{Extent}
 use Rattle.records.specs.declared.Measured.{Measured}
 use Rattle.records.specs.declared.Measured.the-variants.{As, Faulty}

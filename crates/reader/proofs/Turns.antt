@@ -6,15 +6,15 @@ use native.Mathlib.Nat.{add-zero}
 use native.Mathlib.Omega.{arith}
 use lib.ListN.{length}
 use borrow.Author.Tests.{le-leb, lt-leb}
-use Rattle.terms.specs.declared.Refusal.{Refusal}
+use Rattle.refusals.specs.declared.Refusal.{Refusal}
 use Rattle.nets.specs.Nets.{Transition}
 use Rattle.format.specs.Read.{Read, sound, refused, _>>=_}
 use Rattle.format.specs.Contents.{Claim}
 use Rattle.format.specs.Reading.{Size, transitionAt, transitionsAt, transitionSize, claimDue, claimsAt, claimSize}
 use Rattle.fields.specs.Checked.{checked}
 use Rattle.reader.specs.Answers.{countedOf}
-use Rattle.terms.specs.declared.Check.{Check}
-use Rattle.terms.specs.declared.Check.the-variants.{Fine, Refused}
+use Rattle.refusals.specs.declared.Check.{Check}
+use Rattle.refusals.specs.declared.Check.the-variants.{Fine, Refused}
 use Rattle.reader.specs.declared.Reading.{Reading}
 use Rattle.reader.specs.declared.Reading.the-variants.{Sound, Malformed}
 use Rattle.fields.proofs.Checks.{stop-bind, map-sound}

@@ -5,8 +5,8 @@ use Rattle.nets.specs.Verdicts.{Setting}
 use Rattle.format.specs.Read.{Read, sound, refused}
 use Rattle.format.specs.Contents.{Claim, Contents}
 use Rattle.format.specs.Reading.{Size}
-use Rattle.terms.specs.declared.Check.{Check}
-use Rattle.terms.specs.declared.Check.the-variants.{Fine, Refused}
+use Rattle.refusals.specs.declared.Check.{Check}
+use Rattle.refusals.specs.declared.Check.the-variants.{Fine, Refused}
 use Rattle.records.specs.declared.Measured.{Measured}
 use Rattle.records.specs.declared.Measured.the-variants.{As, Faulty}
 use Rattle.reader.specs.declared.Counts.{Counts}

@@ -12,7 +12,7 @@ use records::Measured;
 use records::head;
 use records::start;
 use records::target;
-use terms::Check;
+use refusals::Check;
 
 // TR to TG.
 fn setting(s: &[u8], n: usize, t: usize) -> Check

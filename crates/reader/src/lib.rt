@@ -9,8 +9,8 @@ mod runs; // runs.rt: records of one kind, one after the other
 use front::front;
 use records::Measured;
 use runs::claims;
-use terms::Check;
-use terms::Refusal;
+use refusals::Check;
+use refusals::Refusal;
 
 pub struct Counts {
     pub places: usize,

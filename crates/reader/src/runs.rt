@@ -12,10 +12,10 @@ use fields::refuse;
 use layout::claims_from;
 use records::claim;
 use records::transition;
-use terms::Check;
+use refusals::Check;
 use terms::Claim;
-use terms::Detail;
-use terms::Refusal;
+use refusals::Detail;
+use refusals::Refusal;
 
 // The transitions' records, from the head on.
 pub fn transitions(s: &[u8], n: usize, t: usize) -> Check

@@ -11,10 +11,10 @@ use fields::opened;
 use fields::refuse;
 use fields::weights;
 use fields::whole;
-use terms::Check;
+use refusals::Check;
 use terms::Kind;
 use terms::Place;
-use terms::Refusal;
+use refusals::Refusal;
 use terms::Transition;
 use terms::among;
 

@@ -8,10 +8,10 @@ use reader::Reading;
 use reader::read;
 use rows::tokens_from;
 use rows::weights_from;
-use terms::Check;
+use refusals::Check;
 use terms::Kind;
 use terms::Place;
-use terms::Refusal;
+use refusals::Refusal;
 use terms::Transition;
 use terms::among;
 

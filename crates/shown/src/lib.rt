@@ -1,6 +1,6 @@
 // For the test programs: what they all write to standard output, words and numbers, and a refusal in both.
 use terms::Place;
-use terms::Refusal;
+use refusals::Refusal;
 
 const STDOUT: i32 = 1;
 

@@ -6,10 +6,10 @@ use Prim.Native.Nat.{ℕ, _+_, _≤_, _<_}
 use native.Mathlib.Omega.{arith}
 use lib.ListN.{length}
 use Rattle.terms.specs.Limits.{mostFirings}
-use Rattle.terms.specs.Refusals.{longList}
-use Rattle.terms.specs.declared.Refusal.{Refusal}
-use Rattle.terms.specs.declared.Check.the-variants.{Fine, Refused}
-use Rattle.terms.proofs.Outcomes.{fine-not-refused}
+use Rattle.refusals.specs.Refusals.{longList}
+use Rattle.refusals.specs.declared.Refusal.{Refusal}
+use Rattle.refusals.specs.declared.Check.the-variants.{Fine, Refused}
+use Rattle.refusals.proofs.Outcomes.{fine-not-refused}
 use Rattle.format.specs.Read.{Read, sound, refused}
 use Rattle.format.specs.Contents.{Contents}
 use Rattle.walk.specs.Walk.{walked, AllFine}

@@ -6,8 +6,8 @@ use Prim.Native.Nat.{ℕ, _≤_, _<_}
 use lib.ListN.{length}
 use borrow.Author.Tests.{le-leb, lt-leb}
 use Rattle.terms.specs.Limits.{mostFirings}
-use Rattle.terms.specs.Refusals.{longList}
-use Rattle.terms.specs.declared.Check.the-variants.{Refused}
+use Rattle.refusals.specs.Refusals.{longList}
+use Rattle.refusals.specs.declared.Check.the-variants.{Refused}
 use Rattle.format.specs.Read.{Read, sound, choose}
 use Rattle.format.specs.Contents.{Contents}
 use Rattle.walk.specs.declared.Marking.{Marking}

@@ -4,7 +4,7 @@ use mathlib.Core.List.{List, [], _∷_}
 use Prim.Native.Nat.{ℕ, _≤_}
 use lib.ListN.{length, take, drop}
 use Rattle.terms.specs.Limits.{mostFirings}
-use Rattle.terms.specs.declared.Check.the-variants.{Fine}
+use Rattle.refusals.specs.declared.Check.the-variants.{Fine}
 use Rattle.nets.specs.Nets as nets
 use Rattle.nets.specs.Nets.{Ends}
 use Rattle.format.specs.Read.{sound}

@@ -4,12 +4,12 @@ use Prim.Native.Nat.{ℕ, _+_}
 use lib.Dec.{leb}
 use lib.ListN.{length}
 use Rattle.terms.specs.Limits.{mostFirings}
-use Rattle.terms.specs.Refusals.{longList}
+use Rattle.refusals.specs.Refusals.{longList}
 use Rattle.terms.specs.declared.Transition.{Transition}
 use Rattle.format.specs.Read.{Read, sound, refused, choose}
 use Rattle.format.specs.Contents.{Contents}
-use Rattle.terms.specs.declared.Check.{Check}
-use Rattle.terms.specs.declared.Check.the-variants.{Fine, Refused}
+use Rattle.refusals.specs.declared.Check.{Check}
+use Rattle.refusals.specs.declared.Check.the-variants.{Fine, Refused}
 use Rattle.walk.specs.Walk.{stepOf}
 use Rattle.walk.specs.declared.Marking.{Marking}
 use Rattle.traces.specs.declared.Traced.{Traced}

@@ -8,8 +8,8 @@ use Rattle.nets.specs.HalfSpaces.{HalfSpace, sixteen}
 use Rattle.nets.specs.Reduced.{IsReduced, Twins}
 use Rattle.format.specs.Read.{Read, sound, refused}
 use Rattle.format.specs.Contents.{Contents, halfSpace, claim}
-use Rattle.terms.specs.declared.Check.{Check}
-use Rattle.terms.specs.declared.Check.the-variants.{Fine, Refused}
+use Rattle.refusals.specs.declared.Check.{Check}
+use Rattle.refusals.specs.declared.Check.the-variants.{Fine, Refused}
 use Rattle.claims.specs.Held.{claimCheck}
 use Rattle.twins.specs.declared.Reduced.{Reduced}
 use Rattle.twins.specs.declared.Twin.{Twin}

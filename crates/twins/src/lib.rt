@@ -20,10 +20,10 @@ use reader::read;
 use reduction::Form;
 use reduction::reduced;
 use rows::numbers_at;
-use terms::Check;
+use refusals::Check;
 use terms::Claim;
 use terms::Place;
-use terms::Refusal;
+use refusals::Refusal;
 use terms::among;
 
 pub struct Reduced {

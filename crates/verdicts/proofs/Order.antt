@@ -2,10 +2,10 @@
 use mathlib.Core.Path.{_≡_}
 use Prim.Native.Nat.{ℕ, _≤_}
 use Rattle.terms.specs.Limits.{among, areasFit}
-use Rattle.terms.specs.Refusals.{notAClaim, smallArea}
+use Rattle.refusals.specs.Refusals.{notAClaim, smallArea}
 use Rattle.terms.specs.declared.Claim.{Claim}
 use Rattle.reader.specs.declared.Counts.{Counts}
-use Rattle.terms.specs.declared.Check.the-variants.{Fine}
+use Rattle.refusals.specs.declared.Check.the-variants.{Fine}
 use Rattle.known.proofs.Taken.{among-some}
 use Rattle.pairs.proofs.Order.{held-so, both-fit}
 use Rattle.verdicts.specs.Judged.{countedCheck}

@@ -4,7 +4,7 @@ use mathlib.Core.List.{List}
 use Prim.Native.Nat.{ℕ}
 use native.Mathlib.Omega.{arith}
 use Rattle.terms.specs.declared.Claim.{Claim}
-use Rattle.terms.specs.declared.Refusal.{Refusal}
+use Rattle.refusals.specs.declared.Refusal.{Refusal}
 use Rattle.terms.specs.declared.Transition.{Transition}
 use Rattle.nets.specs.Nets.{Marking, Ends}
 use Rattle.nets.specs.HalfSpaces.{HalfSpace}
@@ -15,8 +15,8 @@ use Rattle.format.specs.Read.{Read, sound, refused}
 use Rattle.format.specs.Contents.{Contents, halfSpace, claim}
 use Rattle.format.specs.Reading.{reading}
 use Rattle.reader.specs.Answers.{countsOf}
-use Rattle.terms.specs.declared.Check.{Check}
-use Rattle.terms.specs.declared.Check.the-variants.{Fine, Refused}
+use Rattle.refusals.specs.declared.Check.{Check}
+use Rattle.refusals.specs.declared.Check.the-variants.{Fine, Refused}
 use Rattle.judged.specs.declared.Answer.the-variants as answers
 use Rattle.judged.specs.declared.Judged.{Judged}
 use Rattle.judged.specs.Judges.{plainJudged, judgedOf, Judges}

@@ -2,14 +2,14 @@
 use mathlib.Core.Path.{_≡_}
 use Prim.Native.Nat.{ℕ}
 use Rattle.terms.specs.Limits.{among, areasFit}
-use Rattle.terms.specs.Refusals.{notAClaim, smallArea}
+use Rattle.refusals.specs.Refusals.{notAClaim, smallArea}
 use Rattle.terms.specs.declared.Claim.{Claim}
 use Rattle.format.specs.Read.{Read, sound, refused, choose}
 use Rattle.format.specs.Contents.{Contents, halfSpace, claim}
 use Rattle.reader.specs.Answers.{countsOf}
 use Rattle.reader.specs.declared.Counts.{Counts}
-use Rattle.terms.specs.declared.Check.{Check}
-use Rattle.terms.specs.declared.Check.the-variants.{Fine, Refused}
+use Rattle.refusals.specs.declared.Check.{Check}
+use Rattle.refusals.specs.declared.Check.the-variants.{Fine, Refused}
 use Rattle.judged.specs.Judges.{plainJudged, Judges}
 use Rattle.judged.specs.declared.Answer.the-variants as answers
 use Rattle.judged.specs.declared.Judged.{Judged}

@@ -18,9 +18,9 @@ use reader::Counts;
 use reader::Reading;
 use reader::read;
 use terms::Area;
-use terms::Check;
+use refusals::Check;
 use terms::Claim;
-use terms::Refusal;
+use refusals::Refusal;
 use terms::among;
 
 // The refusals in their order, by the counts of the sheet.

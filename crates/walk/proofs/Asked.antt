@@ -7,7 +7,7 @@ use native.Mathlib.Omega.{arith}
 use lib.ListN.{length, take}
 use lib.Seq.{take-at}
 use Rattle.terms.specs.Limits.{among}
-use Rattle.terms.specs.Refusals.{notATransition}
+use Rattle.refusals.specs.Refusals.{notATransition}
 use Rattle.terms.specs.declared.Transition.{Transition}
 use Rattle.nets.specs.Nets as nets
 use Rattle.nets.specs.HalfSpaces.{sixteen}
@@ -15,7 +15,7 @@ use Rattle.format.specs.Read.{choose}
 use Rattle.format.specs.Reading.{bytes, transitionSize, transitionsFrom, reading}
 use Rattle.format.proofs.Standing.{length-bytes}
 use Rattle.reader.specs.declared.Counts.{Counts}
-use Rattle.terms.specs.declared.Check.the-variants.{Fine, Refused}
+use Rattle.refusals.specs.declared.Check.the-variants.{Fine, Refused}
 use Rattle.known.specs.Known.{Known}
 use Rattle.known.proofs.Taken.{among-some}
 use Rattle.known.proofs.Known as known

@@ -10,7 +10,7 @@ use lib.ListN.{length, take, List·getD-eq-default}
 use lib.Seq.{length-take-le}
 use borrow.Author.Tests.{le-leb, ltb-true, ltb-false}
 use Rattle.terms.specs.Limits.{among, mostTokens}
-use Rattle.terms.specs.Refusals.{detailOf, notATransition, notEnabled, tooMany}
+use Rattle.refusals.specs.Refusals.{detailOf, notATransition, notEnabled, tooMany}
 use Rattle.terms.specs.declared.Place.{Place}
 use Rattle.terms.specs.declared.Transition.{Transition}
 use Rattle.nets.specs.Nets as nets
@@ -20,8 +20,8 @@ use Rattle.format.specs.Read.{sound, choose}
 use Rattle.format.specs.Contents.{Contents}
 use Rattle.format.specs.Formed.{FormedTransition, FormedSetting}
 use Rattle.format.proofs.Sound.{places-fit}
-use Rattle.terms.specs.declared.Check.{Check}
-use Rattle.terms.specs.declared.Check.the-variants.{Fine, Refused}
+use Rattle.refusals.specs.declared.Check.{Check}
+use Rattle.refusals.specs.declared.Check.the-variants.{Fine, Refused}
 use Rattle.known.proofs.Known.{all-at}
 use Rattle.known.proofs.Taken.{among-some}
 use Rattle.firing.specs.Firing.{isShort, isOver, lowestShort, lowestOver}

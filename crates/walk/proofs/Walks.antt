@@ -5,7 +5,7 @@ use Prim.Native.Nat.{ℕ, _-_, _≤_}
 use native.Mathlib.Omega.{arith}
 use lib.ListN.{length, take, drop, replicate, length-append, length-drop, length-replicate}
 use lib.Seq.{take-at, drop-at}
-use Rattle.terms.specs.declared.Refusal.{Refusal}
+use Rattle.refusals.specs.declared.Refusal.{Refusal}
 use Rattle.terms.specs.declared.Transition.{Transition}
 use Rattle.nets.specs.Nets as nets
 use Rattle.nets.specs.Nets.{Enabled, IsTransition, Ends, Reachable, fire}
@@ -15,8 +15,8 @@ use Rattle.format.specs.Reading.{reading}
 use Rattle.format.specs.Formed.{IsSheet, Formed}
 use Rattle.format.proofs.Accepted.{formed}
 use Rattle.format.proofs.Sound.{places-fit}
-use Rattle.terms.specs.declared.Check.{Check}
-use Rattle.terms.specs.declared.Check.the-variants.{Fine, Refused}
+use Rattle.refusals.specs.declared.Check.{Check}
+use Rattle.refusals.specs.declared.Check.the-variants.{Fine, Refused}
 use Rattle.firing.specs.Firing.{firedIn}
 use Rattle.walk.specs.Walk.{movedTo, stepOf, beginOf, walked, AllFine}
 use Rattle.firing.specs.Table.{StaysWithin}

@@ -4,14 +4,14 @@ use mathlib.Core.List.{List, [], _∷_}
 use Prim.Native.Nat.{ℕ}
 use lib.ListN.{length, take}
 use Rattle.terms.specs.Limits.{among}
-use Rattle.terms.specs.Refusals.{notATransition}
+use Rattle.refusals.specs.Refusals.{notATransition}
 use Rattle.terms.specs.declared.Transition.{Transition}
 use Rattle.nets.specs.Nets as nets
 use Rattle.nets.specs.HalfSpaces.{sixteen}
 use Rattle.format.specs.Read.{Read, sound, refused, choose}
 use Rattle.format.specs.Contents.{Contents}
-use Rattle.terms.specs.declared.Check.{Check}
-use Rattle.terms.specs.declared.Check.the-variants.{Fine, Refused}
+use Rattle.refusals.specs.declared.Check.{Check}
+use Rattle.refusals.specs.declared.Check.the-variants.{Fine, Refused}
 use Rattle.firing.specs.Firing.{lowestShort, lowestOver, firedIn}
 use Rattle.walk.specs.declared.Marking.{Marking}
 use Rattle.walk.specs.declared.Begun.{Begun}

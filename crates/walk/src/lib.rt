@@ -14,9 +14,9 @@ use reader::Reading;
 use reader::read;
 use rows::weights_from;
 use sheet::start_of;
-use terms::Check;
+use refusals::Check;
 use terms::Place;
-use terms::Refusal;
+use refusals::Refusal;
 use terms::Transition;
 use terms::among;
 

@@ -2,7 +2,7 @@
 use shown::refusal;
 use shown::say;
 use shown::tokens;
-use terms::Check;
+use refusals::Check;
 use walk::Begun;
 use walk::Marking;
 use walk::Moved;

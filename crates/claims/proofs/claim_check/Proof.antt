@@ -4,12 +4,12 @@ use mathlib.Core.Bool.{true, false}
 use borrow.Author.Tests.{not-true, not-false}
 use lib.ListN.{length}
 use Rattle.terms.specs.Limits.{among}
-use Rattle.terms.specs.Refusals.{notAClaim}
+use Rattle.refusals.specs.Refusals.{notAClaim}
 use Rattle.format.specs.Read.{choose}
 use Rattle.format.specs.Reading.{reading}
 use Rattle.format.proofs.Places.{held}
 use Rattle.reader.specs.Answers.{checkOf}
-use Rattle.terms.specs.declared.Check.the-variants.{Fine, Refused}
+use Rattle.refusals.specs.declared.Check.the-variants.{Fine, Refused}
 use Rattle.claims.specs.Held.{claimCheck}
 use Rattle.known.proofs.Taken.{sound-answer, refused-answer, c-is}
 use borrow.Author.Needs.{needs}

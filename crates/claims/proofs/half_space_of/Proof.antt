@@ -11,13 +11,13 @@ use mir.Syntax.{w16}
 use mir.Val.{SFits}
 use mir.Facts.{toZ-ofZ}
 use Rattle.terms.specs.Limits.{among}
-use Rattle.terms.specs.Refusals.{notAClaim}
+use Rattle.refusals.specs.Refusals.{notAClaim}
 use Rattle.nets.specs.HalfSpaces as spaces
 use Rattle.format.specs.Read.{choose}
 use Rattle.format.specs.Reading.{reading}
 use Rattle.reader.specs.Answers.{checkOf}
 use Rattle.reader.specs.declared.Counts.{Counts}
-use Rattle.terms.specs.declared.Check.the-variants.{Fine, Refused}
+use Rattle.refusals.specs.declared.Check.the-variants.{Fine, Refused}
 use Rattle.claims.specs.Held.{noHalfSpace, halfSpaceIn, halfSpaceOf}
 use Rattle.known.specs.Known.{Known}
 use Rattle.claims.specs.declared.HalfSpace.{HalfSpace}

@@ -3,9 +3,9 @@ use mathlib.Core.Path.{_≡_, _∙_, sym, ap}
 use native.Mathlib.Omega.{arith}
 use Prim.Native.Nat.{_-_, _≤_}
 use lib.ListN.{take}
-use Rattle.terms.specs.Refusals.{tooMany}
+use Rattle.refusals.specs.Refusals.{tooMany}
 use Rattle.nets.specs.Nets.{fire}
-use Rattle.terms.specs.declared.Check.the-variants.{Refused}
+use Rattle.refusals.specs.declared.Check.the-variants.{Refused}
 use Rattle.firing.specs.Firing.{lowest, isOver, lowestOver}
 use Rattle.firing.specs.Weighted.{weighted}
 use Rattle.firing.proofs.Lowest.{found, passed, all-passed}

@@ -3,8 +3,8 @@ use mathlib.Core.Path.{_≡_, _∙_, sym, ap}
 use native.Mathlib.Omega.{arith}
 use Prim.Native.Nat.{_-_, _≤_}
 use lib.ListN.{take}
-use Rattle.terms.specs.Refusals.{notEnabled}
-use Rattle.terms.specs.declared.Check.the-variants.{Refused}
+use Rattle.refusals.specs.Refusals.{notEnabled}
+use Rattle.refusals.specs.declared.Check.the-variants.{Refused}
 use Rattle.firing.specs.Firing.{lowest, isShort, lowestShort}
 use Rattle.firing.proofs.Lowest.{found, passed, all-passed}
 use Rattle.firing.proofs.Fires.{short-here, enough-here}

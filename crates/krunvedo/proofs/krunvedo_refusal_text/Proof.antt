@@ -6,8 +6,8 @@ use Prim.Native.Nat.{ℕ}
 use lib.Dec.{leb}
 use lib.ListN.{length, drop}
 use Rattle.terms.specs.Limits.{textSize}
-use Rattle.terms.specs.Refusals.{refusedAt, smallText}
-use Rattle.terms.specs.declared.Refusal.{Refusal}
+use Rattle.refusals.specs.Refusals.{refusedAt, smallText}
+use Rattle.refusals.specs.declared.Refusal.{Refusal}
 use Rattle.format.specs.Read.{choose}
 use Rattle.phrases.specs.Phrases.{refusedLine}
 use Rattle.listing.specs.Listed.{RefusalWritten, IsRefusalText}

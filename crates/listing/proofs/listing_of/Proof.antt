@@ -7,8 +7,8 @@ use Rattle.format.specs.Read.{Read}
 use Rattle.format.specs.Contents.{Contents}
 use Rattle.format.specs.Reading.{reading}
 use Rattle.reader.specs.Answers.{IsMalformed}
-use Rattle.terms.specs.declared.Check.{Check}
-use Rattle.terms.specs.declared.Check.the-variants.{Fine, Refused}
+use Rattle.refusals.specs.declared.Check.{Check}
+use Rattle.refusals.specs.declared.Check.the-variants.{Fine, Refused}
 use Rattle.known.proofs.Taken.{sound-answer, refused-answer}
 use Rattle.pairs.specs.Pairs.{areaAfter}
 use Rattle.text.proofs.Writing.{length-written, whole}

@@ -6,7 +6,7 @@ use lib.ListN.{length, take}
 use Rattle.format.specs.Read.{Read}
 use Rattle.format.specs.Contents.{Contents}
 use Rattle.format.specs.Reading.{reading}
-use Rattle.terms.specs.declared.Check.the-variants.{Fine}
+use Rattle.refusals.specs.declared.Check.the-variants.{Fine}
 use Rattle.listing.specs.Listed.{roomCheck}
 use Rattle.page.specs.Page.{IsPage, Starts}
 use Rattle.page.proofs.Paged.{all-fit, line-there, page-there, refused-there}

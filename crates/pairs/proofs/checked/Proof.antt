@@ -3,7 +3,7 @@ use mathlib.Core.Path.{_≡_, _∙_, sym, ap}
 use mathlib.Core.Bool.{true, false}
 use borrow.Author.Tests.{not-true, not-false}
 use Rattle.terms.specs.Limits.{among, areasFit}
-use Rattle.terms.specs.declared.Check.the-variants.{Refused}
+use Rattle.refusals.specs.declared.Check.the-variants.{Refused}
 use borrow.Author.Needs.{needs}
 use Rattle.pairs.proofs.checked.Statement.{statement}
 use Rattle.pairs.proofs.checked.Tie as tie

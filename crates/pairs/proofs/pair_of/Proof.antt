@@ -12,8 +12,8 @@ use Rattle.format.specs.Contents.{Contents, halfSpace, claim}
 use Rattle.format.specs.Reading.{reading}
 use Rattle.reader.specs.Answers.{IsMalformed, countsOf}
 use Rattle.reader.specs.declared.Counts.{Counts}
-use Rattle.terms.specs.declared.Check.{Check}
-use Rattle.terms.specs.declared.Check.the-variants.{Fine, Refused}
+use Rattle.refusals.specs.declared.Check.{Check}
+use Rattle.refusals.specs.declared.Check.the-variants.{Fine, Refused}
 use Rattle.known.proofs.Taken.{sound-answer, refused-answer}
 use Rattle.pairs.specs.declared.Pair.{Pair}
 use Rattle.pairs.specs.declared.Answer.the-variants.{Kept, Broken}

@@ -7,7 +7,7 @@ use Rattle.format.specs.Reading.{reading}
 use Rattle.format.proofs.Places.{held}
 use Rattle.nets.specs.HalfSpaces.{sixteen}
 use Rattle.reader.specs.Answers.{checkOf}
-use Rattle.terms.specs.declared.Check.the-variants.{Fine}
+use Rattle.refusals.specs.declared.Check.the-variants.{Fine}
 use Rattle.sheet.specs.Held.{noStart, startOf}
 use Rattle.sheet.specs.declared.Start.{Start}
 use Rattle.known.proofs.Taken.{sound-answer, refused-answer, most, start-fits, start-taken}

@@ -14,7 +14,7 @@ use Rattle.terms.specs.declared.Kind.the-variants.{Exact, AtOrAbove}
 use Rattle.nets.specs.HalfSpaces.{sixteen}
 use Rattle.nets.specs.Verdicts as verdicts
 use Rattle.reader.specs.Answers.{checkOf}
-use Rattle.terms.specs.declared.Check.the-variants.{Fine}
+use Rattle.refusals.specs.declared.Check.the-variants.{Fine}
 use Rattle.sheet.specs.Held.{kindIs, noTarget, targetOf}
 use Rattle.sheet.specs.declared.Target.{Target}
 use Rattle.known.proofs.Taken.{sound-answer, refused-answer, most, target-fits, target-taken}

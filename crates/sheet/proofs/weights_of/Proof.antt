@@ -7,14 +7,14 @@ use mathlib.Core.List.{List}
 use Prim.Native.Nat.{ℕ, _+_, _-_}
 use lib.ListN.{length}
 use Rattle.terms.specs.Limits.{among}
-use Rattle.terms.specs.Refusals.{notATransition}
+use Rattle.refusals.specs.Refusals.{notATransition}
 use Rattle.format.specs.Reading.{reading}
 use Rattle.format.proofs.Places.{held}
 use Rattle.format.specs.Read.{choose}
 use Rattle.nets.specs.Nets as nets
 use Rattle.nets.specs.HalfSpaces.{sixteen}
 use Rattle.reader.specs.Answers.{checkOf}
-use Rattle.terms.specs.declared.Check.the-variants.{Fine, Refused}
+use Rattle.refusals.specs.declared.Check.the-variants.{Fine, Refused}
 use Rattle.sheet.specs.Held.{noWeights, weightsIn, weightsOf}
 use Rattle.sheet.specs.declared.Weights.{Weights}
 use Rattle.known.proofs.Taken.{sound-answer, refused-answer, among-some, tc-is, most, weights-fit, weights-taken}

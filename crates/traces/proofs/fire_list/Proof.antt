@@ -1,9 +1,9 @@
 -- `fire_list` meets its contract: the sheet's refusal is passed on, then 17 stops a list that is too long, and then its steps decide.
 use mathlib.Core.Path.{_∙_, sym, ap}
 use native.Mathlib.Omega.{arith}
-use Rattle.terms.specs.declared.Check.{Check}
-use Rattle.terms.specs.declared.Refusal.{Refusal}
-use Rattle.terms.specs.declared.Check.the-variants.{Refused}
+use Rattle.refusals.specs.declared.Check.{Check}
+use Rattle.refusals.specs.declared.Refusal.{Refusal}
+use Rattle.refusals.specs.declared.Check.the-variants.{Refused}
 use Rattle.format.specs.Reading.{reading}
 use Rattle.reader.specs.Answers.{checkOf}
 use Rattle.known.proofs.Taken.{sound-answer, refused-answer}

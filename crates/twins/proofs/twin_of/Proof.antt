@@ -4,15 +4,15 @@ use mathlib.Core.Bool.{Bool, true, false}
 use lib.ListN.{length}
 use borrow.Author.Tests.{not-true, not-false}
 use Rattle.terms.specs.Limits.{among}
-use Rattle.terms.specs.Refusals.{notAClaim}
-use Rattle.terms.specs.declared.Refusal.{Refusal}
+use Rattle.refusals.specs.Refusals.{notAClaim}
+use Rattle.refusals.specs.declared.Refusal.{Refusal}
 use Rattle.format.specs.Read.{Read, sound, choose}
 use Rattle.format.specs.Contents.{Contents}
 use Rattle.format.specs.Reading.{reading}
 use Rattle.format.proofs.Places.{held}
 use Rattle.reader.specs.Answers.{IsMalformed}
-use Rattle.terms.specs.declared.Check.{Check}
-use Rattle.terms.specs.declared.Check.the-variants.{Fine, Refused}
+use Rattle.refusals.specs.declared.Check.{Check}
+use Rattle.refusals.specs.declared.Check.the-variants.{Fine, Refused}
 use Rattle.claims.specs.Held.{claimCheck}
 use Rattle.known.proofs.Taken.{sound-answer, refused-answer, among-some, c-is}
 use Rattle.twins.specs.declared.Twin.the-variants as twins

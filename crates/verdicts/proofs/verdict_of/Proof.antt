@@ -8,8 +8,8 @@ use Rattle.format.specs.Contents.{Contents, claim}
 use Rattle.format.specs.Reading.{reading}
 use Rattle.reader.specs.Answers.{IsMalformed, countsOf}
 use Rattle.reader.specs.declared.Counts.{Counts}
-use Rattle.terms.specs.declared.Check.{Check}
-use Rattle.terms.specs.declared.Check.the-variants.{Fine, Refused}
+use Rattle.refusals.specs.declared.Check.{Check}
+use Rattle.refusals.specs.declared.Check.the-variants.{Fine, Refused}
 use Rattle.known.proofs.Taken.{sound-answer, refused-answer}
 use Rattle.pairs.specs.Pairs.{areaAfter}
 use Rattle.verdicts.specs.Judged.{IsJudged, IsJudgedIn, countedCheck, verdictCheck}

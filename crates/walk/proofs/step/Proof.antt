@@ -44,9 +44,9 @@ use Rattle.terms.specs.declared.Transition.{Transition}
 use Rattle.terms.proofs.Transition as R
 use Rattle.terms.proofs.Transition.Laws as R′
 use Rattle.format.specs.Reading.{reading}
-use Rattle.terms.specs.declared.Check.{Check}
-use Rattle.terms.proofs.Check as E
-use Rattle.terms.proofs.Check.Laws as E′
+use Rattle.refusals.specs.declared.Check.{Check}
+use Rattle.refusals.proofs.Check as E
+use Rattle.refusals.proofs.Check.Laws as E′
 use Rattle.walk.specs.Walk.{stepOf}
 use Rattle.walk.specs.declared.Marking.{Marking}
 use Rattle.walk.specs.declared.Moved.{Moved}

@@ -2,7 +2,7 @@
 use mathlib.Core.Path.{_∙_, sym, ap}
 use Rattle.format.specs.Reading.{reading}
 use Rattle.reader.specs.Answers.{checkOf}
-use Rattle.terms.specs.declared.Check.{Check}
+use Rattle.refusals.specs.declared.Check.{Check}
 use Rattle.known.proofs.Taken.{sound-answer, refused-answer}
 use Rattle.walk.specs.Walk.{stepOf}
 use Rattle.walk.proofs.Order.{answered}

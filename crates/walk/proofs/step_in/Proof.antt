@@ -2,7 +2,7 @@
 use mathlib.Core.Path.{_∙_, sym, ap}
 use native.Mathlib.Omega.{arith}
 use borrow.Author.Tests.{not-true, not-false}
-use Rattle.terms.specs.declared.Check.the-variants.{Refused}
+use Rattle.refusals.specs.declared.Check.the-variants.{Refused}
 use Rattle.walk.proofs.Order.{answered}
 use Rattle.walk.proofs.Asked.{missing, from-one, limits, stands-whole, steps}
 use borrow.Author.Needs.{needs}

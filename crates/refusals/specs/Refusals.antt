@@ -1,12 +1,12 @@
 -- Refusals: document 01, "Numbers that say no". Each has its number and a detail.
 use Prim.Native.Nat.{ℕ}
 use Rattle.terms.specs.Limits.{textSize}
 use Rattle.terms.specs.declared.Place.{Place}
 use Rattle.terms.specs.declared.Transition.{Transition}
 use Rattle.terms.specs.declared.Claim.{Claim}
-use Rattle.terms.specs.declared.Refusal.{Refusal}
-use Rattle.terms.specs.declared.Detail.{Detail}
-use Rattle.terms.specs.declared.Detail.the-variants.{Byte, Length, OfClaim, OfTransition, OfPlace, Nothing}
+use Rattle.refusals.specs.declared.Refusal.{Refusal}
+use Rattle.refusals.specs.declared.Detail.{Detail}
+use Rattle.refusals.specs.declared.Detail.the-variants.{Byte, Length, OfClaim, OfTransition, OfPlace, Nothing}
 
 -- the number that the table gives as a detail
 abbrev pub detailOf : Detail → ℕ
