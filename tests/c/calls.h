@@ -6,8 +6,6 @@
 
 #include <stdio.h>
 
-#define MOST 4096 /* bytes of a sheet: none that is sound is longer */
-
 /* A line opens with the call, what it was asked for and its refusal. */
 static void open_line(const char *call, size_t asked, krunvedo_refused refusal) {
   printf("%s %zu: refusal %u at %zu", call, asked, refusal.number, refusal.detail);
@@ -34,11 +32,16 @@ static void space(const char *call, size_t i, krunvedo_space h) {
 }
 
 /* The counts too: they say what else there is to ask for. */
-static krunvedo_counted show_sheet(krunvedo_bytes sheet) {
+static krunvedo_counted show_read(krunvedo_bytes sheet) {
   krunvedo_counted counts = krunvedo_read(sheet);
   open_line("read", 0, counts.refusal);
   printf(", counts %zu %zu %zu", counts.places, counts.transitions, counts.claims);
   end_line();
+  return counts;
+}
+
+static krunvedo_counted show_sheet(krunvedo_bytes sheet) {
+  krunvedo_counted counts = show_read(sheet);
   krunvedo_tokens start = krunvedo_start(sheet);
   open_line("start", 0, start.refusal);
   tokens(start.tokens);
