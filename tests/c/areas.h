@@ -11,7 +11,7 @@
 
 static uint8_t fresh_marks[KRUNVEDO_AREA + BEHIND], marks[KRUNVEDO_AREA + BEHIND];
 static uint16_t fresh_queue[KRUNVEDO_AREA + BEHIND], queue[KRUNVEDO_AREA + BEHIND];
-static uint8_t text[KRUNVEDO_TEXT + BEHIND];
+static uint8_t fresh_text[KRUNVEDO_TEXT + BEHIND], text[KRUNVEDO_TEXT + BEHIND];
 
 /* Entries of the two work areas. */
 typedef struct {
@@ -19,8 +19,9 @@ typedef struct {
   size_t queue;
 } sizes;
 
-/* A pattern without a zero, so that what was cleared and what was left alone can be told apart. */
+/* A pattern without a zero, so that what was cleared and what was left alone can be told apart; and sharps, since no text has one. */
 static void make_pattern(void) {
+  memset(fresh_text, '#', sizeof fresh_text);
   for (size_t at = 0; at < KRUNVEDO_AREA + BEHIND; at++) {
     fresh_marks[at] = (uint8_t)(1 + at % 251);
     fresh_queue[at] = (uint16_t)(1 + at % 65521);
@@ -69,12 +70,12 @@ static void show_verdict(krunvedo_bytes sheet, size_t i, sizes lent) {
   end_line();
 }
 
-/* written: the text is as long as was said. kept: nothing is written. A text has no sharp in it. */
+/* written: the text is as long as was said. kept: nothing is written. */
 static const char *left_in_text(krunvedo_written written) {
-  size_t length = 0, at;
+  size_t length = 0;
   while (length < sizeof text && text[length] != '#') length++;
-  for (at = length; at < sizeof text && text[at] == '#'; at++) continue;
-  if (at < sizeof text || length != (written.number == 0 ? written.value : 0)) return "dirty";
+  int rest_kept = memcmp(text + length, fresh_text, sizeof text - length) == 0;
+  if (!rest_kept || length != (written.number == 0 ? written.value : 0)) return "dirty";
   return written.number == 0 ? "written" : "kept";
 }
 
@@ -89,7 +90,7 @@ static size_t open_written(const char *call, size_t room, krunvedo_written writt
 /* The answer too: a refusal's line can be asked for then. */
 static krunvedo_written show_listing(krunvedo_bytes sheet, sizes lent, size_t room) {
   fill_areas();
-  memset(text, '#', sizeof text);
+  memcpy(text, fresh_text, sizeof text);
   krunvedo_marks lent_marks = {marks, lent.marks};
   krunvedo_queue lent_queue = {queue, lent.queue};
   krunvedo_text lent_text = {text, room};
@@ -102,7 +103,7 @@ static krunvedo_written show_listing(krunvedo_bytes sheet, sizes lent, size_t ro
 }
 
 static void show_refusal_text(krunvedo_refused refusal, size_t room) {
-  memset(text, '#', sizeof text);
+  memcpy(text, fresh_text, sizeof text);
   krunvedo_text lent_text = {text, room};
   size_t length = open_written("refusal_text", room, krunvedo_refusal_text(refusal.number, refusal.detail, lent_text));
   end_line();

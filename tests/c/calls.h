@@ -13,20 +13,32 @@ static void open_line(const char *call, size_t asked, krunvedo_refused refusal) 
 
 static void end_line(void) { printf("\n"); }
 
+/* A number of a row, behind a space: most that is printed. By hand, because under an emulator printf takes several times as long. */
+static void number(int n) {
+  char digits[8];
+  size_t at = sizeof digits;
+  unsigned left = (unsigned)(n < 0 ? -n : n);
+  do digits[--at] = (char)('0' + left % 10);
+  while ((left /= 10) > 0);
+  if (n < 0) digits[--at] = '-';
+  digits[--at] = ' ';
+  fwrite(digits + at, 1, sizeof digits - at, stdout);
+}
+
 static void bytes(const char *name, const uint8_t row[KRUNVEDO_PLACES]) {
   printf(", %s", name);
-  for (int p = 0; p < KRUNVEDO_PLACES; p++) printf(" %u", row[p]);
+  for (int p = 0; p < KRUNVEDO_PLACES; p++) number(row[p]);
 }
 
 static void tokens(const uint16_t row[KRUNVEDO_PLACES]) {
   printf(", tokens");
-  for (int p = 0; p < KRUNVEDO_PLACES; p++) printf(" %u", row[p]);
+  for (int p = 0; p < KRUNVEDO_PLACES; p++) number(row[p]);
 }
 
 static void space(const char *call, size_t i, krunvedo_space h) {
   open_line(call, i, h.refusal);
   printf(", coefficients");
-  for (int p = 0; p < KRUNVEDO_PLACES; p++) printf(" %d", h.coefficients[p]);
+  for (int p = 0; p < KRUNVEDO_PLACES; p++) number(h.coefficients[p]);
   printf(", constant %d", h.constant);
   end_line();
 }
