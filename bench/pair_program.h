@@ -1,6 +1,6 @@
-// Answers framed questions about pairs, each on a line: a claim number, a transition number (two bytes each, the lower one first), a byte
-// that says how large the areas are, the sheet's length (two bytes) and the sheet. The areas are filled before each question and looked
-// through afterwards. The program that has this gives the answer itself.
+// Answers questions about pairs from standard input, each on a line: a claim number, a transition number (two bytes each, the lower one
+// first), a byte that says how large the areas are, the sheet's length (two bytes) and the sheet. The areas are filled before each
+// question and looked through afterwards. What includes this defines `ask`.
 #ifndef PAIR_PROGRAM_H
 #define PAIR_PROGRAM_H
 

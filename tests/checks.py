@@ -52,7 +52,7 @@ Part = Callable[[Checks], None]
 
 
 def run_checks(*parts: Part) -> int:
-    """The exit status of a program that makes these checks. Parts begin in this order, so the longest should come first."""
+    """The exit status of a program that makes these checks. Parts begin in this order: the longest come first."""
     failed = 0
     with ProcessPoolExecutor(WORKERS) as pool:
         for printed, failed_here in pool.map(run_part, parts):

@@ -9,6 +9,7 @@ import sys
 
 sys.dont_write_bytecode = True  # before the imports of our own modules, which would leave __pycache__ behind
 
+import re
 from collections import Counter
 
 from checks import Checks, run_checks
@@ -19,8 +20,8 @@ from make_walks import Walk
 from second.calls import list_line
 from second.limits import MOST_FIRINGS
 from second.listing import Line
-from second.sheet import Refusal, read
-from second.walk import Fired, fired
+from second.sheet import read
+from second.walk import fired
 from tables import check_counts, column_total
 
 # Of each column how many there must be. "longest" is a fine list of 64, "too long" one of 65, "empty" a fine one.
@@ -38,14 +39,17 @@ LEAST = {
 }
 LEAST_OF_EACH_POSITION = 15
 
+ANSWER = re.compile(r"fire_list (\d+): refusal (\d+) at \d+, position (\d+),")
+
 
 def compare_lists(checks: Checks) -> None:
     by_hand = [request(made) for made, _ in LISTS]
     for (made, line), asked in zip(LISTS, by_hand):
         checks.equal(f"{asked.name}, second program against 02", made.data, [Line(line)], asked.lines)
     made = made_lists()
-    compare(checks, [*by_hand, *map(request, made)])
-    kinds = Counter((walk.kind, column) for walk in made for column in columns_of(walk))
+    requests = list(map(request, made))
+    compare(checks, by_hand + requests)
+    kinds = Counter((walk.kind, column) for walk, asked in zip(made, requests) for column in columns_of(*asked.lines))
     check_counts(checks, "compared lists", kinds, LEAST)
     for position in range(1, MOST_FIRINGS + 1):
         column = f"position {position}"
@@ -57,15 +61,14 @@ def request(made: Walk) -> Request:
     return Request(f"list, {made}", made.data, "F", [Line(list_line(answer, len(made.steps)))], made.numbers())
 
 
-def columns_of(made: Walk) -> list[str]:
-    """What the list adds one to."""
-    sheet, length = read(made.data), len(made.steps)
-    if isinstance(sheet, Refusal):
+def columns_of(line: Line) -> list[str]:
+    """What a list's answer adds one to."""
+    length, number, position = map(int, ANSWER.match(line.opening).groups())
+    if 0 < number < 12:
         return ["lists", "refused sheet"]
-    refused, position, _ = fired(sheet, made.marking, made.steps)
-    if refused:
+    if number:
         too_long = ["too long"] if length == MOST_FIRINGS + 1 else []
-        return ["lists", f"refused {refused.number}", f"position {position}", *too_long]
+        return ["lists", f"refused {number}", f"position {position}", *too_long]
     return ["lists", "fine", *(["empty"] if not length else []), *(["longest"] if length == MOST_FIRINGS else [])]
 
 

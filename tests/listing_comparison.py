@@ -39,7 +39,8 @@ LEAST_TRIED = 2_500  # of each verdict
 
 
 def compare_listings(checks: Checks) -> None:
-    kinds, ways = Counter(), Counter()  # by kind of sheet and what is listed; by the way that a verdict was found again and the verdict
+    kinds = Counter()  # by kind of sheet and what is listed
+    ways = Counter()  # by the way that a verdict was found again and the verdict
     requests = []
     for made in made_listings():
         answer = read(made.data)

@@ -14,7 +14,8 @@ ROOT = Path(__file__).resolve().parent.parent
 TIME_LIMIT = 5  # seconds for one sheet, which needs some hundredths of one
 START_TIME = 0.15  # seconds after which a program surely reads
 
-NATIVE = platform.machine() == "x86_64"  # the library and the programs are for x86-64; elsewhere C is built by a cross compiler
+# The library and the programs are for x86-64. Elsewhere a cross compiler builds C, and the kit's emulator runs it.
+NATIVE = platform.machine() == "x86_64"
 COMPILER = "gcc" if NATIVE else "x86_64-linux-gnu-gcc"
 ARCHIVES = ROOT / "target" / "staticlib"
 BUILT = ROOT / "target" / "tests"

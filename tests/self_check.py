@@ -128,7 +128,7 @@ def check_tests_can_fail() -> None:
     check_others_pass(listings, RIGHT_LISTINGS, "claim 1 broken 2 2 1", "2 1")
     check_reported([walk_comparison.request(walk) for walk, _ in WALKED], RIGHT_WALKS, WRONG_WALKS)
     check_reported([list_comparison.request(made) for made, _ in FIRED], RIGHT_LISTS, WRONG_LISTS)
-    # Every call on the sheets whose listings stand above, with the bad markings that the second program happens to find.
+    # Every call on the same sheets, with the bad markings that the second program happens to find.
     calls = list(map(call_comparison.request, LISTED))
     check_reported(calls, right_output(calls), WRONG_CALLS)
     check_others_pass(calls, right_output(calls), JUDGED_J, "3 1")

@@ -8,11 +8,11 @@ from second.limits import MOST_TOKENS
 FULL = hexed("4E 50 01 02", "54 52 01 01", "54 52 00 01", "4D 4B FF FF", "54 47 00 00 00", "48 53 00 00 00")
 
 
-def by_hand(kind: str, data: bytes, marking: str, steps: list[int], begun: str, *stepped: str) -> tuple[Walk, list[str]]:
-    """The last of the tokens given is followed by zeros, here and below."""
+def by_hand(kind: str, data: bytes, marking: str, steps: list[int], *lines: str) -> tuple[Walk, list[str]]:
+    """A line for the beginning and for each step. The last of the tokens given is followed by zeros, here and there."""
     tokens = tuple(map(int, filled(marking).split()))
-    lines = [call_line("begin 0", begun), *(call_line(f"step {t}", words) for t, words in zip(steps, stepped, strict=True))]
-    return Walk(kind, data, tokens, tuple(steps)), lines
+    calls = ["begin 0", *(f"step {t}" for t in steps)]
+    return Walk(kind, data, tokens, tuple(steps)), [call_line(*both) for both in zip(calls, lines, strict=True)]
 
 
 def call_line(call: str, words: str) -> str:

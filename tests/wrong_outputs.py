@@ -110,7 +110,7 @@ WRONG_WALKS = [
     ("no overflow", FULL, "step 2: refusal 16 at 1, tokens 65535", "step 2: refusal 0 at 0, tokens 0"),
     ("15 for 16", FULL, "refusal 16 at 1", "refusal 15 at 1"),
     ("12 before the sheet's refusal", HEAD, "step 2: refusal 9 at 23", "step 2: refusal 12 at 2"),
-    ("no marking after a refused sheet", HEAD, "step 1: refusal 9 at 23, tokens 2", "step 1: refusal 9 at 23, tokens 0"),
+    ("no marking after a refused sheet", HEAD, "at 23, tokens 2", "at 23, tokens 0"),
     ("a start from a refused sheet", HEAD, "begin 0: refusal 9 at 23, tokens 0", "begin 0: refusal 9 at 23, tokens 2"),
     ("a missing walk", HEAD, LAST, ""),
     ("a walk too many", HEAD, LAST, 2 * LAST),

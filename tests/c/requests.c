@@ -1,6 +1,6 @@
-/* Answers many requests from standard input, so that one start is enough for all. Each is a letter, the length of a sheet and the sheet,
- * and then the numbers that the letter needs. A number has two bytes, the lower one first. Prints a line for each call, and after each
- * request a line that is a dot.
+/* Answers many requests from standard input in one run. Each is a letter, the length of a sheet and the sheet, and then the numbers
+ * that the letter needs. A number has two bytes, the lower one first. Prints a line for each call, then where the sheet's bytes are no
+ * longer what they were one that says so, and after each request a line that is a dot.
  *
  *   R  the counts
  *   H  all that the sheet holds, with every number from 0 to one more than a sheet can have

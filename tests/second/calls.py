@@ -1,4 +1,4 @@
-"""What each call of the library must answer on a sheet, in the lines and the order of tests/c/requests.c, but for the dots.
+"""What each call of the library must answer on a sheet, in the lines and the order of tests/c/requests.c.
 
 Rules and quoted sentences are 01's; the numbers of the answers are those of include/krunvedo.h.
 """
