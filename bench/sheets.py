@@ -185,7 +185,7 @@ def kind_of(sheet: Sheet, claim: Claim) -> str:
 
 
 def question(sheet: Sheet, claim: int, transition: int) -> bytes:
-    """As the program `questions` takes it, with areas of 20,000."""
+    """As pair_program.h takes it, with areas of 20,000."""
     data = write(sheet)
     numbers = [(claim, 2), (transition, 2), (0, 1), (len(data), 2)]
     return b"".join(number.to_bytes(size, "little") for number, size in numbers) + data

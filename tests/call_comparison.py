@@ -2,7 +2,7 @@
 
     python3 tests/call_comparison.py
 
-The archive must be built (`scripts/library`). tests/c/every_call.c makes every call for every claim and transition number
+The archive must be built (`scripts/library`). tests/c/every_call.h makes every call for every claim and transition number
 from 0 to one above the count, and for one far above; but of the pairs only some. Its lines are compared one by one,
 but for the choice of bad markings.
 """
@@ -12,28 +12,19 @@ import sys
 sys.dont_write_bytecode = True  # before the imports of our own modules, which would leave __pycache__ behind
 
 from collections import Counter
-from concurrent.futures import ProcessPoolExecutor
-from functools import partial
 from math import gcd
-from pathlib import Path
-from tempfile import TemporaryDirectory
-from typing import NamedTuple
 
-from checks import Checks, Failure, run_checks
-from dotted import dotted_answers
-from library_checks import c_program
+from checks import Checks, run_checks
+from comparison import Request, compare
 from library_checks import claim_lines as claim_lines_by_hand
 from make_calls import made_calls
 from make_listings import Made
 from named_cases import FIRST
-from programs import BATCH_TIME_LIMIT, WORKERS, batches, framed, output_of
-from second.calls import VERDICTS, call_lines
-from second.listing import Line, check_lines, right_text
+from second.calls import VERDICTS, every_line
+from second.listing import Line, right_text
 from second.sheet import Claim, Refusal, read
 from second.twins import first_twins
-from tables import Table, column_total, shown
-
-BATCHES = 16
+from tables import check_counts
 
 # Of each column how many there must be. "divided" is a claim that its reduced form divides by more than 1, "below zero" one of
 # those with both a coefficient and the constant below zero, and "list" a fine list that isn't empty.
@@ -56,56 +47,26 @@ LEAST = {
 }
 
 
-class Compared(NamedTuple):
-    failures: list[Failure]
-    kinds: Table  # by kind of sheet and what was compared on it
-
-
 def compare_calls(checks: Checks) -> None:
     check_by_hand(checks)
+    made = made_calls()
+    requests = list(map(request, made))
+    compare(checks, requests)
     kinds = Counter()
-    with TemporaryDirectory() as folder, ProcessPoolExecutor(WORKERS) as pool:
-        program = c_program(checks, "every_call", Path(folder))
-        if not program:
-            return
-        for compared in pool.map(partial(compare, program), batches(made_calls(), BATCHES)):
-            checks.report(compared.failures)
-            kinds += compared.kinds
-    print(shown("compared every call from C", kinds, list(LEAST)))
-    for column, least in LEAST.items():
-        checks.at_least(f"every call from C, {column}", least, column_total(kinds, column))
+    for (kind, data), asked in zip(made, requests):
+        kinds.update((kind, column) for column in [*columns_of_lines(asked.lines), *columns_of_claims(data)])
+    check_counts(checks, "compared every call from C", kinds, LEAST)
 
 
 def check_by_hand(checks: Checks) -> None:
     """What 01 says of the claims of its own sheet, the second program says too."""
-    found = right_text(call_lines(FIRST)).splitlines()
+    found = right_text(every_line(FIRST)).splitlines()
     missing = [line for line in claim_lines_by_hand() if line not in found]
     checks.equal("every call, second program against 01", FIRST, [], missing)
 
 
-def compare(program: list[str], sheets: list[Made]) -> Compared:
-    output = output_of(program, BATCH_TIME_LIMIT, input=b"".join(framed(data) for _, data in sheets))
-    expected = [call_lines(data) for _, data in sheets]
-    kinds = Counter()
-    for made, lines in zip(sheets, expected):
-        kinds.update((made.kind, column) for column in [*columns_of_lines(lines), *columns_of_claims(made.data)])
-    return Compared(differences(sheets, expected, output), kinds)
-
-
-def differences(sheets: list[Made], expected: list[list[Line]], output: str) -> list[Failure]:
-    """One failure for each sheet that isn't answered as it must be, with the first line that is wrong."""
-    failures = []
-    for (kind, data), lines, answer in zip(sheets, expected, dotted_answers(output, len(sheets))):
-        reason = check_lines(lines, answer)
-        if reason:
-            failures.append(Failure(f"every call, {kind}", data, reason, first_wrong(lines, answer)))
-    return failures
-
-
-def first_wrong(lines: list[Line], answer: str) -> str:
-    """The first line that is wrong, or where all that are there are right the last few bytes."""
-    wrong = (actual for line, actual in zip(lines, answer.split("\n")) if not line.fits(actual))
-    return next(wrong, answer[-60:])
+def request(made: Made) -> Request:
+    return Request(f"every call, {made.kind}", made.data, "E", every_line(made.data))
 
 
 def columns_of_lines(lines: list[Line]) -> list[str]:

@@ -3,13 +3,13 @@
 from collections.abc import Iterable
 from itertools import chain
 from random import Random
+from typing import NamedTuple
 
 from checks import Checks
-from comparison import Case
 from make_sheets import damaged_sheets, random_bytes, sheets_of_every_size, sound_sheets
 from named_cases import named_cases
 from second.counts import first_line
-from second.sheet import Sheet, read, write
+from second.sheet import Refusal, Sheet, read, write
 
 # Showing all that a sheet holds takes some hundred times as long as its answer alone, so most are not shown.
 MOST_BYTES_SHOWN = 250  # of a named sheet
@@ -21,11 +21,19 @@ RANDOM_SHOWN = 100
 
 SPECIAL_SHEETS = [b"", b"\x00", b"N", b"\xff"]  # always shown, and always given to judge itself
 
-MOST_FRAMED = 65_535  # bytes of a sheet that `answers` can be given
+MOST_SENT = 65_535  # bytes of a sheet that tests/c/requests.c can be given
 
-# Each start of judge takes as long as some thousand sheets given to `answers`.
+# Each start of judge takes as long as some hundred sheets that the library reads.
 JUDGED_GROUPS = ["sound", "kind", "count of claims", "longer than any sheet", "order of records", "order of checks"]
 JUDGED_OF_EACH_ANSWER = 16
+
+
+class Case(NamedTuple):
+    name: str
+    kind: str  # how it was made: damage may by chance leave a sheet sound
+    data: bytes
+    answer: Sheet | Refusal  # of the second program
+    shown: bool  # whether all that the sheet holds is compared, and not its counts alone
 
 
 def make_cases(checks: Checks) -> list[Case]:
@@ -45,10 +53,10 @@ def make_cases(checks: Checks) -> list[Case]:
 
 def named(checks: Checks) -> Iterable[Case]:
     for index, (name, data, line) in enumerate(named_cases()):
-        expected = first_line(data)
-        checks.equal(f"{name}, second program against 01", data, line + "\n", expected)
+        answer = read(data)
+        checks.equal(f"{name}, second program against 01", data, line + "\n", first_line(answer))
         kind = "damaged" if line.startswith("refused") else "sound"
-        yield Case(name, kind, data, expected, is_shown(index, name, data))
+        yield Case(name, kind, data, answer, is_shown(index, name, data))
 
 
 def is_shown(index: int, name: str, data: bytes) -> bool:
@@ -60,25 +68,26 @@ def is_shown(index: int, name: str, data: bytes) -> bool:
 def sound(checks: Checks, name: str, sheets: list[Sheet], shown: int) -> Iterable[Case]:
     for index, sheet in enumerate(sheets):
         data = write(sheet)
-        checks.equal(f"{name}, second program reads what it wrote", data, sheet, read(data))
-        yield Case(name, "sound", data, first_line(data), shown=index < shown)
+        answer = read(data)
+        checks.equal(f"{name}, second program reads what it wrote", data, sheet, answer)
+        yield Case(name, "sound", data, answer, shown=index < shown)
 
 
 def made(kind: str, sheets: list[bytes], shown: int) -> Iterable[Case]:
     for index, data in enumerate(sheets):
-        yield Case(f"{kind} sheet", kind, data, first_line(data), shown=index < shown)
+        yield Case(f"{kind} sheet", kind, data, read(data), shown=index < shown)
 
 
-def for_answers(cases: list[Case]) -> list[Case]:
-    return [case for case in cases if len(case.data) <= MOST_FRAMED]
+def for_library(cases: list[Case]) -> list[Case]:
+    return [case for case in cases if len(case.data) <= MOST_SENT]
 
 
 def for_judge(cases: list[Case]) -> list[Case]:
-    """The sheets where input and output matter, those too long for `answers`, and some of each answer."""
+    """The sheets where input and output matter, those too long for tests/c/requests.c, and some of each answer."""
     special = [
         case
         for case in cases
-        if case.name in JUDGED_GROUPS or case.data in SPECIAL_SHEETS or len(case.data) > MOST_FRAMED
+        if case.name in JUDGED_GROUPS or case.data in SPECIAL_SHEETS or len(case.data) > MOST_SENT
     ]
     by_answer: dict[str, list[Case]] = {}
     for case in cases:
@@ -89,5 +98,4 @@ def for_judge(cases: list[Case]) -> list[Case]:
 
 
 def answer_name(case: Case) -> str:
-    first, second, *_ = case.first_line.split()
-    return f"refusal {second}" if first == "refused" else "not refused"
+    return f"refusal {case.answer.number}" if isinstance(case.answer, Refusal) else "not refused"

@@ -1,9 +1,13 @@
 """Counts the checks that failed, and shows each."""
 
 from collections.abc import Callable
+from concurrent.futures import ProcessPoolExecutor
+from contextlib import redirect_stdout
+from io import StringIO
 from typing import NamedTuple
 
-MOST_FAILURES = 25  # a program that fails this often is not worth more output
+MOST_FAILURES = 25  # a part that fails this often is not worth more output
+WORKERS = 2  # parts that run at a time
 
 
 class Failure(NamedTuple):
@@ -44,13 +48,26 @@ class Checks:
             raise TooManyFailures
 
 
-def run_checks(*parts: Callable[[Checks], None]) -> int:
-    """The exit status of a program that makes these checks."""
+Part = Callable[[Checks], None]
+
+
+def run_checks(*parts: Part) -> int:
+    """The exit status of a program that makes these checks. Parts begin in this order: the longest come first."""
+    failed = 0
+    with ProcessPoolExecutor(WORKERS) as pool:
+        for printed, failed_here in pool.map(run_part, parts):
+            print(printed, end="", flush=True)
+            failed += failed_here
+    print(f"{failed} checks failed" if failed else "all checks passed")
+    return 1 if failed else 0
+
+
+def run_part(part: Part) -> tuple[str, int]:
+    """What the part printed, and how many of its checks failed."""
     checks = Checks()
-    try:
-        for part in parts:
+    with redirect_stdout(StringIO()) as printed:
+        try:
             part(checks)
-    except TooManyFailures:
-        print(f"stopped after {checks.failed} failures")
-    print(f"{checks.failed} checks failed" if checks.failed else "all checks passed")
-    return 1 if checks.failed else 0
+        except TooManyFailures:
+            print(f"stopped after {checks.failed} failures")
+    return printed.getvalue(), checks.failed

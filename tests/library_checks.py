@@ -11,59 +11,31 @@ import sys
 sys.dont_write_bytecode = True  # before the imports of our own modules, which would leave __pycache__ behind
 
 import platform
-import subprocess
 from collections.abc import Iterator
-from pathlib import Path
-from tempfile import TemporaryDirectory
 
 from checks import Checks, run_checks
 from named_cases import FIRST
-from programs import ROOT, TIME_LIMIT, command, output_of
+from programs import ARCHIVES, BUILT, COMPILER, NATIVE, ROOT, TIME_LIMIT, build, c_program, output_of
 from verdicts_by_hand import LISTING_OF_01
 
-NATIVE = platform.machine() == "x86_64"
-COMPILER = "gcc" if NATIVE else "x86_64-linux-gnu-gcc"
-ARCHIVES = ROOT / "target" / "staticlib"
-STRICT_C = ["-std=c11", "-pedantic", "-Wall", "-Wextra", "-Werror", "-O2"]
 STRICT_RUST = ["--edition", "2021", "--test", "-D", "warnings"]
 
 
 def check_library(checks: Checks) -> None:
-    with TemporaryDirectory() as folder:
-        check_c(checks, Path(folder))
-        if NATIVE:
-            check_rust(checks, Path(folder) / "library")
-        else:
-            print(f"library: not linked by rustc, which makes no x86-64 programs on {platform.machine()}")
+    expected = "".join(line + "\n" for line in expected_lines())
+    checks.equal("the library from C", FIRST, expected, output_of(c_program("example"), TIME_LIMIT, input=FIRST))
+    print(f"library: linked by {COMPILER}")
+    if NATIVE:
+        check_rust(checks)
+    else:
+        print(f"library: not linked by rustc, which makes no x86-64 programs on {platform.machine()}")
 
 
-def check_c(checks: Checks, folder: Path) -> None:
-    program = c_program(checks, "example", folder)
-    if program:
-        expected = "".join(line + "\n" for line in expected_lines())
-        checks.equal("the library from C", FIRST, expected, output_of(program, TIME_LIMIT, input=FIRST))
-
-
-def c_program(checks: Checks, name: str, folder: Path) -> list[str]:
-    """The command that runs tests/c/NAME.c, which is built into the folder with the library; nothing if it can't be built."""
-    source, archive, program = ROOT / "tests" / "c" / f"{name}.c", ARCHIVES / "libkrunvedo.a", folder / name
-    if not built(checks, [COMPILER, *STRICT_C, f"-I{ROOT / 'include'}", source, archive, "-o", program]):
-        return []
-    return [str(program)] if NATIVE else command(str(program))
-
-
-def check_rust(checks: Checks, program: Path) -> None:
-    source = ROOT / "tests" / "rust" / "library.rs"
-    if built(checks, ["rustc", *STRICT_RUST, "-L", ARCHIVES, source, "-o", program]):
-        checks.equal("the library from Rust", b"", "", failed_tests(output_of([str(program)], TIME_LIMIT)))
-
-
-def built(checks: Checks, line: list) -> bool:
-    made = subprocess.run([str(word) for word in line], capture_output=True, text=True)
-    checks.equal(f"build with {line[0]}", b"", (0, ""), (made.returncode, made.stderr))
-    if made.returncode == 0:
-        print(f"library: linked by {line[0]}")
-    return made.returncode == 0
+def check_rust(checks: Checks) -> None:
+    program = BUILT / "library"
+    build(["rustc", *STRICT_RUST, "-L", ARCHIVES, ROOT / "tests" / "rust" / "library.rs", "-o", program])
+    checks.equal("the library from Rust", b"", "", failed_tests(output_of([str(program)], TIME_LIMIT)))
+    print("library: linked by rustc")
 
 
 def failed_tests(output: str) -> str:

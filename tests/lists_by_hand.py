@@ -8,9 +8,9 @@ FINE = "refusal 0 at 0, position 0"
 
 
 def by_hand(kind: str, data: bytes, marking: str, steps: list[int], answer: str, after: str) -> tuple[Walk, str]:
-    """The last of a marking's tokens given here is followed by zeros."""
-    tokens = tuple(map(int, filled(marking, 0).split()))
-    return Walk(kind, data, tokens, tuple(steps)), f"{answer}, tokens {filled(after, 0)}"
+    """The last of the tokens given is followed by zeros."""
+    tokens = tuple(map(int, filled(marking).split()))
+    return Walk(kind, data, tokens, tuple(steps)), f"fire_list {len(steps)}: {answer}, tokens {filled(after)}"
 
 
 LISTS = [

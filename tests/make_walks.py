@@ -12,7 +12,7 @@ from second import limits
 from second.pairs import Vector
 from second.sheet import Sheet, Transition, write
 
-MOST_STEPS = 255  # what a frame can say
+MOST_STEPS = 255  # that tests/c/requests.c takes
 
 
 class Walk(NamedTuple):
@@ -20,6 +20,13 @@ class Walk(NamedTuple):
     data: bytes  # the sheet
     marking: Vector  # sixteen numbers
     steps: tuple[int, ...]
+
+    def numbers(self) -> list[int]:
+        """What a request needs besides the sheet."""
+        return [*self.marking, len(self.steps), *self.steps]
+
+    def __str__(self) -> str:
+        return f"{self.kind}, at {self.marking}, steps {self.steps}"
 
 
 def made_walks() -> list[Walk]:

@@ -8,7 +8,7 @@ from checks import Checks
 from make_pairs import random_pairs, sheet_with
 from make_sheets import damaged_sheets
 from named_cases import FIRST, HEAD, LARGEST, MIDDLE, SMALLEST, patched
-from pair_comparison import AREA_SIZES, Question, padded, second_answer, words
+from pair_questions import AREA_SIZES, Question, padded, second_answer, words
 from second.pairs import Pair, is_shown
 from second.sheet import Claim, Sheet, Transition, write
 

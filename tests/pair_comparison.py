@@ -1,143 +1,89 @@
-"""Holds the answers of `questions` to what the second program says of each pair."""
+"""Asks the library about many pairs of a half space and a transition, and holds its answers to the second program.
 
-from itertools import repeat
-from typing import NamedTuple
+    python3 tests/pair_comparison.py
 
-from checks import Failure
-from programs import framed
-from second.held import row
-from second.limits import MOST_PLACES
-from second.pairs import Pair, Vector, bad_marking, is_shown, pair_asked, small_bad_markings, value
+The archive must be built (`scripts/library`).
+"""
+
+import sys
+
+sys.dont_write_bytecode = True  # before the imports of our own modules, which would leave __pycache__ behind
+
+from collections import Counter
+
+from checks import Checks, run_checks
+from comparison import differences, dotted_answers, output_for
+from pair_cases import make_questions
+from pair_questions import Answer, kinds_of, request, second_answer, second_faults, shown_marking, words
 from second.sheet import Refusal
 
-# Entries of the two areas, by the byte of a question that says which.
-AREA_SIZES = [(20_000, 20_000), (19_999, 20_000), (20_000, 19_999), (20_008, 20_008), (0, 0)]
+LEAST_QUESTIONS = 34_000
+LEAST_OF_EACH_REFUSAL = 40
 
-# By the number of places, up to how many tokens in each all markings are tried: some hundred markings.
-MOST_TRIED = {1: 40, 2: 14, 3: 6, 4: 3}
-
-# A refusal shows no marking, and neither does kept: zeros alone, as for what any refused call holds.
-NO_MARKING = MOST_PLACES * (0,)
-
-
-class Question(NamedTuple):
-    name: str
-    data: bytes  # the sheet
-    claim: int
-    transition: int
-    areas: int  # which of AREA_SIZES
-
-
-class Answer(NamedTuple):
-    """What the second program says of a question."""
-
-    asked: Pair | Refusal
-    bad: Vector | None  # a bad marking, if the pair has any
-    small: list[Vector]  # those found by trying
+# Of each kind, how many pairs must be kept and how many broken. By the theorems of 004 oriented, monotone and
+# antitone ones are all kept.
+LEAST_KEPT_AND_BROKEN = {
+    "all at or above zero": (3_000, 2_000),
+    "all at or below zero": (3_000, 2_000),
+    "mixed signs": (800, 2_500),
+    "with zeros": (800, 800),
+    "oriented": (3_000, 0),
+    "monotone": (2_000, 0),
+    "antitone": (2_000, 0),
+    "non-trivial, one sign": (1_000, 5_000),
+    "window of one value": (400, 600),
+    "window beyond 10,000": (0, 500),
+}
 
 
-def frame(question: Question) -> bytes:
-    """A question as `questions` takes it."""
-    numbers = [(question.claim, 2), (question.transition, 2), (question.areas, 1)]
-    return b"".join(number.to_bytes(size, "little") for number, size in numbers) + framed(question.data)
+def compare_pairs(checks: Checks) -> None:
+    questions = make_questions(checks)
+    answers = list(map(second_answer, questions))
+    requests = list(map(request, questions, answers))
+    output = output_for(requests)
+    checks.report(differences(requests, output))
+    for question, answer in zip(questions, answers):
+        checks.report(second_faults(question, answer))
+    decided = [answer for answer in answers if not isinstance(answer.asked, Refusal)]
+    names = Counter(map(answer_name, answers))
+    kinds = Counter((kind, words(answer)) for answer in decided for kind in kinds_of(answer.asked))
+    print_counts(names, kinds, Counter(map(has_least_total, answers, dotted_answers(output, len(requests)))))
+    check_coverage(checks, names, kinds)
 
 
-def second_answer(question: Question) -> Answer:
-    asked = pair_asked(question.data, question.claim, question.transition, AREA_SIZES[question.areas])
-    if isinstance(asked, Refusal):
-        return Answer(asked, None, [])
-    most_tried = MOST_TRIED.get(len(asked.claim.coefficients))
-    small = [] if most_tried is None else small_bad_markings(asked, most_tried)
-    return Answer(asked, bad_marking(asked), small)
+def answer_name(answer: Answer) -> str:
+    """The words without the detail."""
+    return words(answer).split(" at ")[0]
 
 
-def words(answer: Answer) -> str:
-    if isinstance(answer.asked, Refusal):
-        return answer.asked.words()
-    return "broken" if answer.bad else "kept"
+def has_least_total(answer: Answer, printed: str) -> bool | None:
+    """None where there is nothing to compare. Printed and no more, because 01 asks for any bad marking."""
+    shown = shown_marking(printed)
+    if not answer.small or not shown:
+        return None
+    return sum(shown) <= min(map(sum, answer.small))
 
 
-def line(answer: Answer, marking: Vector) -> str:
-    left = "kept" if isinstance(answer.asked, Refusal) else "zero"
-    return f"{words(answer)} marking {row(marking)} areas {left} {left}\n"
+def print_counts(answers: Counter[str], kinds: Counter[tuple[str, str]], totals: Counter[bool | None]) -> None:
+    print(f"asked about {answers.total():,} pairs: {counted(answers)}")
+    for kind in LEAST_KEPT_AND_BROKEN:
+        kept, broken = kinds[kind, "kept"], kinds[kind, "broken"]
+        print(f"  {kind}: {kept + broken:,}: kept {kept:,}, broken {broken:,}")
+    print(f"shown markings with a bad one among those tried: least total {totals[True]:,}, more {totals[False]:,}")
 
 
-def differences(questions: list[Question], answers: list[Answer], output: str) -> list[Failure]:
-    """One failure for each question that isn't answered as it must be. What follows the last answer is part of it."""
-    failures = []
-    for question, answer, actual in zip(questions, answers, lines_for(questions, output)):
-        expected = expected_line(answer, actual)
-        if actual != expected:
-            failures.append(failure(question, expected, actual))
-    return failures
+def counted(answers: Counter[str]) -> str:
+    return ", ".join(f"{name} {answers[name]:,}" for name in sorted(answers))
 
 
-def lines_for(questions: list[Question], output: str) -> list[str]:
-    lines = output.splitlines(True)
-    last = len(questions) - 1
-    return [*lines[:last], *repeat("", last - len(lines)), "".join(lines[last:])]
+def check_coverage(checks: Checks, answers: Counter[str], kinds: Counter[tuple[str, str]]) -> None:
+    checks.at_least("questions about pairs", LEAST_QUESTIONS, answers.total())
+    for number in [*range(1, 10), 11, 12, 13]:
+        checks.at_least(f"pairs refused {number}", LEAST_OF_EACH_REFUSAL, answers[f"refused {number}"])
+    for kind, least in LEAST_KEPT_AND_BROKEN.items():
+        for word, count in zip(["kept", "broken"], least):
+            checks.at_least(f"{kind}, {word}", count, kinds[kind, word])
 
 
-def expected_line(answer: Answer, actual: str) -> str:
-    """Any bad marking will do, so the actual one is expected if it is bad; if it isn't, the second program's."""
-    if not answer.bad:
-        return line(answer, NO_MARKING)
-    shown = shown_marking(actual)
-    return line(answer, shown if shown and is_shown(answer.asked, shown) else answer.bad)
-
-
-def shown_marking(actual: str) -> Vector | None:
-    """The sixteen numbers of a broken pair's line, if that is what it has there."""
-    numbers = actual.split()[2 : 2 + MOST_PLACES]
-    return tuple(map(int, numbers)) if len(numbers) == MOST_PLACES and all(map(str.isdecimal, numbers)) else None
-
-
-def failure(question: Question, expected: object, actual: object) -> Failure:
-    sizes = "{} and {}".format(*AREA_SIZES[question.areas])
-    asked = f"claim {question.claim}, transition {question.transition}, areas of {sizes}"
-    return Failure(f"{question.name}, {asked}", question.data, expected, actual)
-
-
-def second_faults(question: Question, answer: Answer) -> list[Failure]:
-    """What the second program can't have right, by the definitions alone or by the theorems of 004."""
-    if isinstance(answer.asked, Refusal):
-        return []
-    faults = []
-    if answer.bad and not is_shown(answer.asked, padded(answer.bad)):
-        faults.append(("a bad marking of at most 20,000 tokens", answer.bad))
-    if answer.small and not answer.bad:
-        faults.append((f"broken at {answer.small[0]}", "kept"))
-    kinds = kinds_of(answer.asked)
-    if answer.bad and not {"oriented", "monotone", "antitone"}.isdisjoint(kinds):
-        faults.append(("kept by Theorem 2 of 004", answer.bad))
-    if not answer.bad and "mixed signs" in kinds and "oriented" not in kinds:
-        faults.append(("broken by Theorem 3 of 004", "kept"))
-    return [failure(question._replace(name=f"{question.name}, second program"), *fault) for fault in faults]
-
-
-def padded(marking: Vector) -> Vector:
-    return marking + NO_MARKING[len(marking) :]
-
-
-def kinds_of(pair: Pair) -> list[str]:
-    """The kinds of 004 that a pair is of, and some that bear on how it is decided; a pair is of several."""
-    (coefficients, constant), (taken, put) = pair
-    lowest, highest = min(coefficients), max(coefficients)
-    before, after = value(coefficients, taken), value(coefficients, put)
-    low, high = constant - before, constant - after - 1
-    trivial = {
-        "oriented": before <= after,
-        "monotone": lowest >= 0 and after >= constant,
-        "antitone": highest <= 0 and before < constant,
-    }
-    holding = {
-        "all at or above zero": lowest >= 0,
-        "all at or below zero": highest <= 0,
-        "mixed signs": lowest < 0 < highest,
-        "with zeros": 0 in coefficients,
-        **trivial,
-        "non-trivial, one sign": not any(trivial.values()) and not lowest < 0 < highest,
-        "window of one value": low == high,
-        "window beyond 10,000": low <= high and (low > 10_000 or high < -10_000),
-    }
-    return [kind for kind, holds in holding.items() if holds]
+if __name__ == "__main__":
+    sys.exit(run_checks(compare_pairs))

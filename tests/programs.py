@@ -1,31 +1,55 @@
-"""Starts the project's programs, and says how they ended."""
+"""Starts the project's programs and those of tests/c, and says how they ended."""
 
+import os
+import platform
 import subprocess
 import time
-from collections.abc import Iterable
+from collections.abc import Iterable, Sequence
+from functools import cache
 from pathlib import Path
 from signal import SIGKILL
 from threading import Timer
 
 ROOT = Path(__file__).resolve().parent.parent
 TIME_LIMIT = 5  # seconds for one sheet, which needs some hundredths of one
-BATCH_TIME_LIMIT = 60  # seconds for one batch, which needs one or two
-WORKERS = 2  # batches that run at a time
 START_TIME = 0.15  # seconds after which a program surely reads
 
+# The library and the programs are for x86-64. Elsewhere a cross compiler builds C, and the kit's emulator runs it.
+NATIVE = platform.machine() == "x86_64"
+COMPILER = "gcc" if NATIVE else "x86_64-linux-gnu-gcc"
+ARCHIVES = ROOT / "target" / "staticlib"
+BUILT = ROOT / "target" / "tests"
+STRICT_C = ["-std=c11", "-pedantic", "-Wall", "-Wextra", "-Werror", "-O2"]
 
-def batches(items: list, count: int) -> list[list]:
-    """Every batch gets its share of each kind of item, so that all take about as long."""
-    return [items[index::count] for index in range(count)]
 
-
+@cache
 def command(name: str) -> list[str]:
-    return [str(ROOT / "scripts" / "program"), name]
+    """The words that start a program, asked for once: the script takes about as long as the start itself."""
+    words = finished([str(ROOT / "scripts" / "program"), "--words", name], stdout=subprocess.PIPE)
+    words.check_returncode()
+    return words.stdout.decode().splitlines()
 
 
-def framed(data: bytes) -> bytes:
-    """A sheet among others on standard input: its length and the sheet."""
-    return len(data).to_bytes(2, "little") + data
+@cache
+def c_program(name: str) -> list[str]:
+    """The words that start tests/c/NAME.c, which is built with the library first."""
+    source, archive, program = ROOT / "tests" / "c" / f"{name}.c", ARCHIVES / "libkrunvedo.a", BUILT / name
+    draft = BUILT / f"{name}.{os.getpid()}"  # another process may build it at the same time
+    BUILT.mkdir(parents=True, exist_ok=True)
+    build([COMPILER, *STRICT_C, f"-I{ROOT / 'include'}", source, archive, "-o", draft])
+    draft.replace(program)
+    return [str(program)] if NATIVE else command(str(program))
+
+
+class NotBuilt(Exception):
+    pass
+
+
+def build(line: Sequence[str | Path]) -> None:
+    """A warning counts as a failure."""
+    made = subprocess.run(list(map(str, line)), capture_output=True, text=True)
+    if made.returncode or made.stderr:
+        raise NotBuilt(f"{line[0]} ended with status {made.returncode}:\n{made.stderr}")
 
 
 def run(name: str, time_limit: float = TIME_LIMIT, **standard_input) -> str:

@@ -4,7 +4,6 @@ What fails here is raised, because the means to report it are what is in doubt.
 """
 
 from collections import Counter
-from collections.abc import Callable
 from contextlib import redirect_stdout
 from io import StringIO
 from unittest.mock import patch
@@ -12,23 +11,24 @@ from unittest.mock import patch
 import call_comparison
 import list_comparison
 import listing_comparison
-import pair_comparison
+import sheet_comparison
 import walk_comparison
+from cases import Case
 from checks import Checks, Failure
-from comparison import Case, differences, expected_answer
+from comparison import Request, differences
 from named_cases import FIRST, HEAD, SMALLEST
 from pair_cases import CASES as PAIRS
 from pair_cases import EMPTY, ENOUGH, sheet_of
-from pair_comparison import Question, second_answer, second_faults
-from second.counts import first_line
+from pair_questions import Question, request, second_answer, second_faults
+from second.calls import page_lines
+from second.listing import right_text
 from second.sheet import read, write
 from wrong_outputs import (
-    CALLED,
     FIRED,
     JUDGED_J,
     LISTED,
+    NONE,
     OTHER_RIGHT_TOKENS,
-    RIGHT_CALLS,
     RIGHT_LISTINGS,
     RIGHT_LISTS,
     RIGHT_WALKS,
@@ -40,34 +40,35 @@ from wrong_outputs import (
 )
 
 CASES = [
-    Case("first sheet", "sound", FIRST, first_line(FIRST), shown=True),
-    Case("sheet without a claim", "damaged", HEAD, first_line(HEAD), shown=True),
-    Case("smallest sheet", "sound", SMALLEST, first_line(SMALLEST), shown=False),
+    Case("first sheet", "sound", FIRST, read(FIRST), shown=True),
+    Case("sheet without a claim", "damaged", HEAD, read(HEAD), shown=True),
+    Case("smallest sheet", "sound", SMALLEST, read(SMALLEST), shown=False),
 ]
-START = "start fine 2 0" + 14 * " 0" + "\n"
-LAST = "places 1 transitions 0 claims 1\n"
+START = f"start 0: refusal 0 at 0, tokens 2 0{NONE}\n"
+LAST = "read 0: refusal 0 at 0, counts 1 0 1\n.\n"
 
 # What is wrong, the sheet that it is wrong for, the right words and the wrong ones.
 WRONG = [
-    ("a count", FIRST, "claims 5\n", "claims 4\n"),
-    ("a weight", FIRST, "transition 1 fine taken 1 0", "transition 1 fine taken 0 1"),
-    ("a call not refused", FIRST, "transition 2 refused 12 at 2", "transition 2 fine"),
-    ("a token beyond place n", FIRST, "start fine 2 0 0", "start fine 2 0 1"),
-    ("the kind", FIRST, "target fine exact", "target fine at or above"),
-    ("a sign", FIRST, "claim 2 fine -1 0", "claim 2 fine 1 0"),
-    ("two coefficients exchanged", FIRST, "claim 4 fine 2 1", "claim 4 fine 1 2"),
-    ("a constant", FIRST, "constant 4 record", "constant 5 record"),
-    ("a byte of a record", FIRST, "record 72 83 255 0", "record 72 83 254 0"),
-    ("a record too short", FIRST, "72 83 2 1 2 0 fine", "72 83 2 1 2 fine"),
-    ("a record's check", FIRST, "72 83 2 2 4 0 fine", "72 83 2 2 4 0 refused 11 at 5"),
+    ("a count", FIRST, "counts 2 1 5", "counts 2 1 4"),
+    ("a weight", FIRST, "weights 1: refusal 0 at 0, taken 1 0", "weights 1: refusal 0 at 0, taken 0 1"),
+    ("a call not refused", FIRST, "weights 2: refusal 12 at 2", "weights 2: refusal 0 at 0"),
+    ("a token beyond place n", FIRST, "start 0: refusal 0 at 0, tokens 2 0 0", "start 0: refusal 0 at 0, tokens 2 0 1"),
+    ("the kind", FIRST, "kind 0", "kind 1"),
+    ("a sign", FIRST, "half_space 2: refusal 0 at 0, coefficients -1", "half_space 2: refusal 0 at 0, coefficients 1"),
+    ("two coefficients exchanged", FIRST, "coefficients 2 1", "coefficients 1 2"),
+    ("a constant", FIRST, "constant 4", "constant 5"),
+    ("a record one later", FIRST, "from 29, length 6", "from 30, length 6"),
+    ("a record too short", FIRST, "from 29, length 6", "from 29, length 5"),
+    ("a record's check", FIRST, "claim_check 5: refusal 0 at 0", "claim_check 5: refusal 11 at 5"),
     ("a missing line", FIRST, START, ""),
     ("a line too many", FIRST, START, 2 * START),
-    ("a detail", HEAD, "refused 9 at 23\n", "refused 9 at 24\n"),
-    ("a refusal's number", HEAD, "refused 9 at 23\n", "refused 1 at 23\n"),
-    ("a detail passed on", HEAD, "start refused 9 at 23", "start refused 9 at 0"),
+    ("a detail", HEAD, "read 0: refusal 9 at 23", "read 0: refusal 9 at 24"),
+    ("a refusal's number", HEAD, "read 0: refusal 9 at 23", "read 0: refusal 1 at 23"),
+    ("a detail passed on", HEAD, "start 0: refusal 9 at 23", "start 0: refusal 9 at 0"),
     ("a missing answer", SMALLEST, LAST, ""),
     ("an answer too many", SMALLEST, LAST, 2 * LAST),
     ("a missing newline", SMALLEST, LAST, LAST[:-1]),
+    ("a changed sheet", SMALLEST, LAST, LAST.replace(".\n", "sheet changed\n.\n")),
     ("an end by a signal", SMALLEST, LAST, LAST + "(ended with status -11)"),
 ]
 
@@ -80,28 +81,29 @@ QUESTIONS = [
     Question("refused", FIRST, 6, 2, EMPTY),
 ]
 ANSWERS = list(map(second_answer, QUESTIONS))
-KEPT = "kept marking 0 0" + 14 * " 0" + " areas zero zero\n"
-BROKEN = "broken marking 2 1" + 14 * " 0" + " areas zero zero\n"
-REFUSED = "refused 11 at 6 marking" + 16 * " 0" + " areas kept kept\n"
+CLEARED = "by transition 1, marks 20000 zero, queue 20000 zero\n.\n"
+KEPT = f"pair 1: refusal 0 at 0, answer 1, tokens 0 0{NONE}, {CLEARED}"
+BROKEN = f"pair 1: refusal 0 at 0, answer 2, tokens 2 1{NONE}, {CLEARED}"
+REFUSED = f"pair 6: refusal 11 at 6, answer 0, tokens 0 0{NONE}, by transition 2, marks 0 kept, queue 0 kept\n.\n"
 
 WRONG_PAIRS = [
-    ("kept for broken", CASE_J, "broken marking 2 1", "kept marking 0 0"),
-    ("broken for kept", CASE_A, "kept marking 0 0", "broken marking 2 2"),
-    ("a marking that isn't inside", CASE_J, "marking 2 1", "marking 2 2"),
-    ("a marking that stays inside", CASE_J, "marking 2 1", "marking 4 1"),
-    ("a marking that isn't enabled", CASE_J, "marking 2 1", "marking 1 0"),
-    ("a bad marking with 20,001 tokens", CASE_J, "marking 2 1", "marking 20001 13334"),
-    ("a token beyond place n", CASE_J, "marking 2 1 0", "marking 2 1 1"),
-    ("a marking too short", CASE_J, "marking 2 1 0", "marking 2 1"),
-    ("a marking with kept", CASE_A, "kept marking 0 0", "kept marking 2 2"),
-    ("a marking with a refusal", FIRST, "at 6 marking 0", "at 6 marking 1"),
-    ("a dirty first area", CASE_A, KEPT, KEPT.replace("zero zero", "dirty zero")),
-    ("a dirty second area", CASE_J, BROKEN, BROKEN.replace("zero zero", "zero dirty")),
-    ("areas not cleared", CASE_A, KEPT, KEPT.replace("zero zero", "kept kept")),
-    ("areas cleared in vain", FIRST, REFUSED, REFUSED.replace("kept kept", "zero zero")),
-    ("12 before 11", FIRST, "refused 11 at 6", "refused 12 at 2"),
-    ("13 before 11", FIRST, "refused 11 at 6", "refused 13 at 0"),
-    ("another pair's detail", FIRST, "refused 11 at 6", "refused 11 at 2"),
+    ("kept for broken", CASE_J, "answer 2, tokens 2 1", "answer 1, tokens 0 0"),
+    ("broken for kept", CASE_A, "answer 1, tokens 0 0", "answer 2, tokens 2 2"),
+    ("a marking that isn't inside", CASE_J, "tokens 2 1", "tokens 2 2"),
+    ("a marking that stays inside", CASE_J, "tokens 2 1", "tokens 4 1"),
+    ("a marking that isn't enabled", CASE_J, "tokens 2 1", "tokens 1 0"),
+    ("a bad marking with 20,001 tokens", CASE_J, "tokens 2 1", "tokens 20001 13334"),
+    ("a token beyond place n", CASE_J, "tokens 2 1 0", "tokens 2 1 1"),
+    ("a marking too short", CASE_J, "tokens 2 1 0", "tokens 2 1"),
+    ("a marking with kept", CASE_A, "answer 1, tokens 0 0", "answer 1, tokens 2 2"),
+    ("a marking with a refusal", FIRST, "answer 0, tokens 0", "answer 0, tokens 1"),
+    ("a dirty first area", CASE_A, KEPT, KEPT.replace("marks 20000 zero", "marks 20000 dirty")),
+    ("a dirty second area", CASE_J, BROKEN, BROKEN.replace("queue 20000 zero", "queue 20000 dirty")),
+    ("areas not cleared", CASE_A, KEPT, KEPT.replace("zero", "kept")),
+    ("areas cleared in vain", FIRST, REFUSED, REFUSED.replace("kept", "zero")),
+    ("12 before 11", FIRST, "refusal 11 at 6", "refusal 12 at 2"),
+    ("13 before 11", FIRST, "refusal 11 at 6", "refusal 13 at 0"),
+    ("another pair's detail", FIRST, "refusal 11 at 6", "refusal 11 at 2"),
     ("kept for a refusal", FIRST, REFUSED, KEPT),
     ("a missing answer about a pair", FIRST, REFUSED, ""),
     ("an answer about a pair too many", FIRST, REFUSED, 2 * REFUSED),
@@ -118,60 +120,55 @@ WRONG_SECOND = [
 
 
 def check_tests_can_fail() -> None:
-    check_reported(lambda output: differences("wrong", CASES, output), "".join(map(expected_answer, CASES)), WRONG)
-    check_reported(pair_failures, KEPT + BROKEN + REFUSED, WRONG_PAIRS)
-    for tokens in ["3 2", "20000 13333"]:
-        demand(f"{tokens} passes too", not pair_failures(KEPT + BROKEN.replace("2 1", tokens) + REFUSED))
-    for name, index, bad in WRONG_SECOND:
-        demand(f"{name} is reported", second_faults(QUESTIONS[index], ANSWERS[index]._replace(bad=bad)))
-    check_reported(listing_failures, RIGHT_LISTINGS, WRONG_LISTINGS)
-    for tokens in OTHER_RIGHT_TOKENS:
-        other = RIGHT_LISTINGS.replace("broken 2 2 1\n", f"broken 2 {tokens}\n")
-        demand(f"{tokens} in a listing passes too", other != RIGHT_LISTINGS and not listing_failures(other))
-    check_reported(walk_failures, RIGHT_WALKS, WRONG_WALKS)
-    check_reported(list_failures, RIGHT_LISTS, WRONG_LISTS)
-    check_reported(call_failures, RIGHT_CALLS, WRONG_CALLS)
-    for tokens in OTHER_RIGHT_TOKENS:
-        other = RIGHT_CALLS.replace(JUDGED_J, JUDGED_J.replace("3 1", tokens))
-        demand(f"{tokens} in a call's answer passes too", other != RIGHT_CALLS and not call_failures(other))
+    sheets = list(map(sheet_comparison.request, CASES))
+    check_reported(sheets, right_output(sheets), WRONG)
+    check_pairs_can_fail()
+    listings = [Request("a listing", data, "L", page_lines(read(data))) for _, data in LISTED]
+    check_reported(listings, RIGHT_LISTINGS, WRONG_LISTINGS)
+    check_others_pass(listings, RIGHT_LISTINGS, "claim 1 broken 2 2 1", "2 1")
+    check_reported([walk_comparison.request(walk) for walk, _ in WALKED], RIGHT_WALKS, WRONG_WALKS)
+    check_reported([list_comparison.request(made) for made, _ in FIRED], RIGHT_LISTS, WRONG_LISTS)
+    # Every call on the same sheets, with the bad markings that the second program happens to find.
+    calls = list(map(call_comparison.request, LISTED))
+    check_reported(calls, right_output(calls), WRONG_CALLS)
+    check_others_pass(calls, right_output(calls), JUDGED_J, "3 1")
     demand("the second program agrees with itself", not failures_found_again())
     with patch("second.sums.some_sum", return_value=False):
         demand("second program: proof for broken, found another way", failures_found_again())
 
 
-def pair_failures(output: str) -> list[Failure]:
-    return pair_comparison.differences(QUESTIONS, ANSWERS, output)
+def right_output(requests: list[Request]) -> str:
+    return "".join(right_text(request.lines) + ".\n" for request in requests)
 
 
-def listing_failures(output: str) -> list[Failure]:
-    return listing_comparison.differences(LISTED, output)
+def check_pairs_can_fail() -> None:
+    pairs = list(map(request, QUESTIONS, ANSWERS))
+    check_reported(pairs, KEPT + BROKEN + REFUSED, WRONG_PAIRS)
+    check_others_pass(pairs, KEPT + BROKEN + REFUSED, BROKEN, "2 1")
+    for name, index, bad in WRONG_SECOND:
+        demand(f"{name} is reported", second_faults(QUESTIONS[index], ANSWERS[index]._replace(bad=bad)))
+
+
+def check_others_pass(requests: list[Request], right: str, words: str, tokens: str) -> None:
+    """Any bad marking will do. The words are right, and so are they with other tokens."""
+    for others in OTHER_RIGHT_TOKENS:
+        other = right.replace(words, words.replace(tokens, others))
+        demand(f"{others} for {tokens} passes too", other != right and not differences(requests, other))
 
 
 def failures_found_again() -> list[Failure]:
-    compared = listing_comparison.Compared([], Counter(), Counter())
-    listing_comparison.find_again(LISTED[0], read(LISTED[0].data), compared)
-    return compared.failures
+    made = LISTED[0]
+    sheet = read(made.data)
+    return listing_comparison.found_again(made, sheet, page_lines(sheet), Counter())
 
 
-def walk_failures(output: str) -> list[Failure]:
-    return walk_comparison.differences([walk for walk, _ in WALKED], output)
-
-
-def list_failures(output: str) -> list[Failure]:
-    return list_comparison.differences([made for made, _ in FIRED], output)
-
-
-def call_failures(output: str) -> list[Failure]:
-    return call_comparison.differences(LISTED, CALLED, output)
-
-
-def check_reported(find: Callable[[str], list[Failure]], right: str, wrong: list[tuple[str, bytes, str, str]]) -> None:
-    demand("right output passes", not find(right))
-    reported = {failure.data for failure in find("")}
+def check_reported(requests: list[Request], right: str, wrong: list[tuple[str, bytes, str, str]]) -> None:
+    demand("right output passes", not differences(requests, right))
+    reported = {failure.data for failure in differences(requests, "")}
     demand("no output is reported for every sheet", reported == {data for _, data, _, _ in wrong})
     for name, data, words, wrong_words in wrong:
         demand(f"{name}: the words are there", words in right)
-        found = find(right.replace(words, wrong_words, 1))
+        found = differences(requests, right.replace(words, wrong_words, 1))
         demand(f"{name} is reported", [failure.data for failure in found] == [data])
         demand(f"{name} counts as a failure and is shown", failure_shown(found, data))
 

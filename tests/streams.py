@@ -10,6 +10,7 @@ from named_cases import FIRST, HEAD, HS, LARGEST, LARGEST_HS
 from programs import command, finished, run, run_in_pieces, with_end
 from second.counts import first_line
 from second.listing import check_listing
+from second.sheet import read
 
 
 def check_streams(checks: Checks) -> None:
@@ -46,7 +47,7 @@ def check_pieces(checks: Checks) -> None:
         ([LARGEST, b"H", LARGEST_HS[1:]], "refused 8 at 2889"),
     ]:
         data = b"".join(pieces)
-        expected = first_line(data)
+        expected = first_line(read(data))
         checks.equal("sheet in pieces, second program against 01", data, line + "\n", expected)
         actual = run_in_pieces("judge", pieces, pause=0.01)
         checks.equal("sheet in pieces", data, None, check_listing(data, actual))

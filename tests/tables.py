@@ -2,7 +2,16 @@
 
 from collections import Counter
 
+from checks import Checks
+
 Table = Counter[tuple[str, str]]
+
+
+def check_counts(checks: Checks, title: str, table: Table, least: dict[str, int]) -> None:
+    """Shows the counts, and demands of each column as many as are given."""
+    print(shown(title, table, list(least)))
+    for column, count in least.items():
+        checks.at_least(f"{title}, {column}", count, column_total(table, column))
 
 
 def shown(title: str, table: Table, columns: list[str]) -> str:

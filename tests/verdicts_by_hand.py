@@ -1,11 +1,11 @@
 """Holds the second program and ours to document 01: verdicts, twins and whole listings, written by hand."""
 
 from checks import Checks
-from dotted import dotted_answers
+from comparison import Request, dotted_answers, output_for
 from named_cases import FIRST, HEAD, LARGEST, MIDDLE, SMALLEST
 from pair_cases import CASES, T_OF_004
 from pair_cases import K as T_OF_CASE_K
-from programs import BATCH_TIME_LIMIT, command, framed, output_of, run
+from programs import run
 from second.listing import check_listing, listing
 from second.pairs import may_be_shown, value
 from second.sheet import Claim, Sheet, Transition, write
@@ -40,15 +40,16 @@ def sheets_of_verdicts() -> list[Sheet]:
 
 
 def check_listed(checks: Checks) -> None:
-    """Our program lists the same sheets."""
+    """The library lists the same sheets, and judge some."""
     twins = Sheet(2, 0, (), (0, 0), 0, (0, 0), tuple(claim for claim, _ in TWINS))
-    sheets = [write(sheet) for sheet in [*sheets_of_verdicts(), twins]]
-    output = output_of(command("listings"), BATCH_TIME_LIMIT, input=b"".join(map(framed, sheets)))
-    *answers, last = dotted_answers(output, len(sheets))
-    for (name, *_, word), data, answer in zip(VERDICTS, sheets, answers):
-        checks.equal(f"verdict on case {name}, listed", data, word, (answer.split() + 9 * [""])[8])
-    listed = [line.partition(" twin ")[2] for line in last.splitlines()[1:-1]]
-    checks.equal("twins, listed", sheets[-1], [str(twin or "") for _, twin in TWINS], listed)
+    sheets = [*sheets_of_verdicts(), twins]
+    requests = [Request("listing by hand", write(sheet), "L", []) for sheet in sheets]
+    answers = dotted_answers(output_for(requests), len(requests))
+    *claims, with_twins = (answer.splitlines()[2:-1] for answer in answers)
+    for (name, *_, word), request, lines in zip(VERDICTS, requests, claims):
+        checks.equal(f"verdict on case {name}, listed", request.data, [word], [line.split()[2] for line in lines])
+    listed = [line.partition(" twin ")[2] for line in with_twins]
+    checks.equal("twins, listed", requests[-1].data, [str(twin or "") for _, twin in TWINS], listed)
     for data, expected in LISTINGS:
         checks.equal("listing, judge against 01", data, expected, run("judge", input=data))
 

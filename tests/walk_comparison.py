@@ -1,11 +1,8 @@
 """Holds walks on many nets to the second program.
 
-    python3 tests/walk_comparison.py [COMMAND ..]
+    python3 tests/walk_comparison.py
 
-The command, by default our program `walks`, gets for each walk on standard input the sheet's length and bytes, the
-marking's sixteen numbers, how many steps there are in one byte, and each step's transition in two bytes. For each it
-prints the sheet's start or its refusal, then a line for each step with the marking after it, and then a line that is a
-dot. Steps begin at the marking given, and go on after a refusal.
+The archive must be built (`scripts/library`). Steps begin at the marking given, and go on after a refusal.
 """
 
 import sys
@@ -13,88 +10,51 @@ import sys
 sys.dont_write_bytecode = True  # before the imports of our own modules, which would leave __pycache__ behind
 
 from collections import Counter
-from concurrent.futures import ProcessPoolExecutor
-from functools import partial
-from typing import NamedTuple
 
-from checks import Checks, Failure, run_checks
-from comparison import first_difference
-from dotted import dotted_answers
+from checks import Checks, run_checks
+from comparison import Request, compare
 from make_walks import Walk, made_walks
-from programs import BATCH_TIME_LIMIT, WORKERS, batches, command, framed, output_of
-from second.held import row
-from second.sheet import Refusal, read
-from second.walk import begun, stepped
-from tables import Table, column_total, shown
+from second.calls import Asked, begin_line, step_lines
+from second.listing import Line
+from second.sheet import read
+from tables import check_counts
+from walks_by_hand import WALKS
 
-BATCHES = 24
-
-STEPS = ["moved", "refused 12", "refused 15", "refused 16"]
-COLUMNS = ["walks", "refused sheet", *STEPS]
-LEAST = [20_000, 900, 40_000, 5_000, 25_000, 10_000]  # of each column
-
-
-class Compared(NamedTuple):
-    failures: list[Failure]
-    kinds: Table  # by kind of walk and what stands in its answer
-
-
-def compare_walks(checks: Checks, program: list[str] = command("walks")) -> None:
-    kinds = Counter()
-    with ProcessPoolExecutor(WORKERS) as pool:
-        for compared in pool.map(partial(compare, program), batches(made_walks(), BATCHES)):
-            checks.report(compared.failures)
-            kinds += compared.kinds
-    print(shown("compared walks", kinds, COLUMNS))
-    for column, least in zip(COLUMNS, LEAST):
-        checks.at_least(f"walks, {column}", least, column_total(kinds, column))
+# Of each column how many there must be.
+LEAST = {
+    "walks": 20_000,
+    "refused sheet": 900,
+    "moved": 40_000,
+    "refused 12": 5_000,
+    "refused 15": 25_000,
+    "refused 16": 10_000,
+}
 
 
-def compare(program: list[str], walks: list[Walk]) -> Compared:
-    output = output_of(program, BATCH_TIME_LIMIT, input=b"".join(map(frame, walks)))
-    kinds = Counter((walk.kind, column) for walk in walks for column in columns_of(walk))
-    return Compared(differences(walks, output), kinds)
+def compare_walks(checks: Checks) -> None:
+    by_hand = [request(walk) for walk, _ in WALKS]
+    for (walk, lines), asked in zip(WALKS, by_hand):
+        checks.equal(f"{asked.name}, second program against 01", walk.data, list(map(Line, lines)), asked.lines)
+    made = made_walks()
+    requests = list(map(request, made))
+    compare(checks, by_hand + requests)
+    kinds = Counter((walk.kind, column) for walk, asked in zip(made, requests) for column in columns_of(asked.lines))
+    check_counts(checks, "compared walks", kinds, LEAST)
 
 
-def frame(walk: Walk) -> bytes:
-    marking, steps = (b"".join(number.to_bytes(2, "little") for number in numbers) for numbers in walk[2:])
-    return framed(walk.data) + marking + bytes([len(walk.steps)]) + steps
+def request(walk: Walk) -> Request:
+    asked = Asked(read(walk.data))
+    lines = [begin_line(asked), *step_lines(asked, walk.marking, walk.steps)]
+    return Request(f"walk, {walk}", walk.data, "W", list(map(Line, lines)), walk.numbers())
 
 
-def differences(walks: list[Walk], output: str) -> list[Failure]:
-    """One failure for each walk that isn't answered as it must be."""
-    failures = []
-    for walk, actual in zip(walks, dotted_answers(output, len(walks))):
-        expected = "".join(line + "\n" for line in [*answer_lines(walk), "."])
-        if actual != expected:
-            name = f"walk, {walk.kind}, at {row(walk.marking)}, steps {walk.steps}"
-            failures.append(Failure(name, walk.data, *first_difference(expected, actual)))
-    return failures
-
-
-def answer_lines(walk: Walk) -> list[str]:
-    """What must be printed of a walk; a refused step leaves the marking as it is."""
-    sheet = read(walk.data)
-    start = begun(sheet)
-    lines = [start.words() if isinstance(start, Refusal) else f"start {row(start)}"]
-    marking = walk.marking
-    for number in walk.steps:
-        after = stepped(sheet, marking, number)
-        if isinstance(after, Refusal):
-            lines.append(f"{after.words()} {row(marking)}")
-        else:
-            marking = after
-            lines.append(f"moved {row(marking)}")
-    return lines
-
-
-def columns_of(walk: Walk) -> list[str]:
-    """What the walk adds one to, a column as often as its answer has that."""
-    start, *steps = answer_lines(walk)
-    if start.startswith("refused"):
+def columns_of(lines: list[Line]) -> list[str]:
+    """What a walk's answer adds one to, a column as often as it has that."""
+    begun, *steps = (line.opening.split()[3] for line in lines)  # the numbers of the refusals
+    if begun != "0":
         return ["walks", "refused sheet"]
-    return ["walks", *(" ".join(step.split()[:2]) if step.startswith("refused") else "moved" for step in steps)]
+    return ["walks", *("moved" if number == "0" else f"refused {number}" for number in steps)]
 
 
 if __name__ == "__main__":
-    sys.exit(run_checks(partial(compare_walks, program=sys.argv[1:] or command("walks"))))
+    sys.exit(run_checks(compare_walks))

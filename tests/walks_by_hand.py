@@ -1,39 +1,31 @@
-"""Holds the second program and ours to document 01: walks, written by hand."""
+"""Walks with what 01 says of each, written by hand."""
 
-from checks import Checks
 from make_walks import Walk
 from named_cases import FIRST, HEAD, MIDDLE, hexed
-from programs import BATCH_TIME_LIMIT, command, output_of
 from second.limits import MOST_TOKENS
-from walk_comparison import answer_lines, differences, frame
 
 # One place, which is full. The first transition takes one and puts one, the second takes none and puts one.
 FULL = hexed("4E 50 01 02", "54 52 01 01", "54 52 00 01", "4D 4B FF FF", "54 47 00 00 00", "48 53 00 00 00")
 
 
-def check_walks_by_hand(checks: Checks) -> None:
-    for walk, lines in WALKS:
-        checks.equal(f"walk, {walk.kind}, second program against 01", walk.data, lines, answer_lines(walk))
-    walks = [walk for walk, _ in WALKS]
-    output = output_of(command("walks"), BATCH_TIME_LIMIT, input=b"".join(map(frame, walks)))
-    checks.report(differences(walks, output))
-
-
 def by_hand(kind: str, data: bytes, marking: str, steps: list[int], *lines: str) -> tuple[Walk, list[str]]:
-    """The last of a marking's tokens given here is followed by zeros, in the lines too."""
-    tokens = tuple(map(int, filled(marking, 0).split()))
-    start, *others = lines
-    first = start if start.startswith("refused") else filled(start, 1)
-    return Walk(kind, data, tokens, tuple(steps)), [first, *(filled(line, words_before(line)) for line in others)]
+    """A line for the beginning and for each step. The last of the tokens given is followed by zeros, here and there."""
+    tokens = tuple(map(int, filled(marking).split()))
+    calls = ["begin 0", *(f"step {t}" for t in steps)]
+    return Walk(kind, data, tokens, tuple(steps)), [call_line(*both) for both in zip(calls, lines, strict=True)]
 
 
-def words_before(line: str) -> int:
-    """How many words stand before the tokens."""
-    return 4 if line.startswith("refused") else 1
+def call_line(call: str, words: str) -> str:
+    """Words are a word and tokens, or a refusal in four words and tokens."""
+    match words.split():
+        case ["refused", number, "at", detail, *tokens]:
+            return f"{call}: refusal {number} at {detail}, tokens {filled(' '.join(tokens))}"
+        case [_, *tokens]:
+            return f"{call}: refusal 0 at 0, tokens {filled(' '.join(tokens))}"
 
 
-def filled(line: str, before: int) -> str:
-    return line + (16 + before - len(line.split())) * " 0"
+def filled(tokens: str) -> str:
+    return " ".join([*tokens.split(), *(16 - len(tokens.split())) * ["0"]])
 
 
 TOP = MOST_TOKENS

@@ -1,10 +1,10 @@
-"""Right outputs of `listings`, `walks`, tests/c/lists.c and tests/c/every_call.c, and wrong ones that must be reported."""
+"""Right outputs of tests/c/requests.c, and wrong ones that must be reported: listings, walks, lists and every call."""
 
 from lists_by_hand import LISTS
 from make_listings import Made
 from named_cases import FIRST, HEAD
 from pair_cases import T_OF_004
-from second.calls import call_lines
+from second.calls import every_line
 from second.listing import right_text
 from second.sheet import Claim, Sheet, Transition, write
 from verdicts_by_hand import LISTING_OF_01
@@ -23,8 +23,11 @@ CASE_J = write(
     )
 )
 LISTED = [Made("by hand", data) for data in [FIRST, HEAD, CASE_J]]
-LISTING_OF_J = "places 2 transitions 2 claims 2\nclaim 1 broken 2 2 1\nclaim 2 broken 2 3 2 twin 1\n.\n"
-RIGHT_LISTINGS = f"{LISTING_OF_01}.\nrefused 9 at 23\n.\n{LISTING_OF_J}"
+LISTED_FINE = "listing: number 0 at 0, text 4096 written, marks 20000 zero, queue 20000 zero\n"
+LISTING_OF_J = f"{LISTED_FINE}places 2 transitions 2 claims 2\nclaim 1 broken 2 2 1\nclaim 2 broken 2 3 2 twin 1\n.\n"
+LISTING_REFUSED = "listing: number 9 at 23, text 4096 kept, marks 20000 kept, queue 20000 kept\n"
+REFUSAL_TEXT = "refusal_text: number 0 at 0, text 4096 written\nrefused 9 at 23\n"
+RIGHT_LISTINGS = f"{LISTED_FINE}{LISTING_OF_01}.\n{LISTING_REFUSED}{REFUSAL_TEXT}.\n{LISTING_OF_J}"
 
 CLAIM_1, CLAIM_2 = "claim 1 proof\n", "claim 2 start-outside\n"
 
@@ -50,6 +53,10 @@ WRONG_LISTINGS = [
     ("a missing newline", FIRST, "claim 1 proof\n", "claim 1 proof "),
     ("an empty line", FIRST, "claim 1 proof\n", "claim 1 proof\n\n"),
     ("a capital", FIRST, "claim 1 proof", "Claim 1 proof"),
+    ("areas that a listing doesn't clear", FIRST, LISTED_FINE, LISTED_FINE.replace("zero", "kept")),
+    ("a text of another length than was said", FIRST, LISTED_FINE, LISTED_FINE.replace("written", "dirty")),
+    ("areas that a refused listing clears", HEAD, LISTING_REFUSED, LISTING_REFUSED.replace("20000 kept", "20000 zero")),
+    ("a refused listing that writes", HEAD, LISTING_REFUSED, LISTING_REFUSED.replace("4096 kept", "4096 dirty")),
     ("a refusal's number", HEAD, "refused 9 at 23", "refused 1 at 23"),
     ("a detail", HEAD, "refused 9 at 23", "refused 9 at 24"),
     ("words before a refusal", HEAD, "refused 9 at 23", "places 2 transitions 1 claims 0\nrefused 9 at 23"),
@@ -84,25 +91,27 @@ ANSWERS = ["".join(line + "\n" for line in [*lines, "."]) for _, lines in WALKED
 RIGHT_WALKS = "".join(ANSWERS)
 
 NONE, LAST = 14 * " 0", ANSWERS[-1]
+BEGUN, MOVED = "begin 0: refusal 0 at 0, tokens", "step 1: refusal 0 at 0, tokens"
+SECOND = f"{MOVED} 0 2{NONE}\n"
 
 WRONG_WALKS = [
-    ("another start", FIRST, f"start 2 0{NONE}", f"start 0 1{NONE}"),
-    ("a start with tokens beyond n", FIRST, "start 2 0 0", "start 2 0 1"),
-    ("a walk that doesn't move", FIRST, f"moved 1 1{NONE}", f"moved 2 0{NONE}"),
-    ("a walk that moves once", FIRST, f"moved 0 2{NONE}", f"moved 1 1{NONE}"),
-    ("a step that isn't refused", FIRST, f"refused 15 at 1 0 2{NONE}", f"moved 0 2{NONE}"),
-    ("15 with another place", FIRST, "refused 15 at 1", "refused 15 at 2"),
-    ("15 with a place from 0 on", FIRST, "refused 15 at 1", "refused 15 at 0"),
-    ("a refused step that moves", FIRST, f"refused 15 at 1 0 2{NONE}", f"refused 15 at 1 0 3{NONE}"),
-    ("a missing step", FIRST, f"moved 0 2{NONE}\n", ""),
-    ("a step too many", FIRST, f"moved 0 2{NONE}\n", 2 * f"moved 0 2{NONE}\n"),
-    ("a marking too short", FIRST, f"moved 0 2{NONE}\n", f"moved 0 2{NONE[2:]}\n"),
-    ("overflow before the tokens taken have left", FULL, f"moved 65535 0{NONE}", f"refused 16 at 1 65535 0{NONE}"),
-    ("no overflow", FULL, "refused 16 at 1 65535", "moved 0"),
-    ("15 for 16", FULL, "refused 16 at 1", "refused 15 at 1"),
-    ("12 before the sheet's refusal", HEAD, f"refused 9 at 23 2 0{NONE}", f"refused 12 at 2 2 0{NONE}"),
-    ("no marking after a refused sheet", HEAD, f"refused 9 at 23 2 0{NONE}", "refused 9 at 23"),
-    ("a start from a refused sheet", HEAD, "refused 9 at 23\n", f"start 2 0{NONE}\n"),
+    ("another start", FIRST, f"{BEGUN} 2 0", f"{BEGUN} 0 1"),
+    ("a start with tokens beyond n", FIRST, f"{BEGUN} 2 0 0", f"{BEGUN} 2 0 1"),
+    ("a walk that doesn't move", FIRST, f"{MOVED} 1 1", f"{MOVED} 2 0"),
+    ("a walk that moves once", FIRST, f"{MOVED} 0 2", f"{MOVED} 1 1"),
+    ("a step that isn't refused", FIRST, "refusal 15 at 1", "refusal 0 at 0"),
+    ("15 with another place", FIRST, "refusal 15 at 1", "refusal 15 at 2"),
+    ("15 with a place from 0 on", FIRST, "refusal 15 at 1", "refusal 15 at 0"),
+    ("a refused step that moves", FIRST, "refusal 15 at 1, tokens 0 2", "refusal 15 at 1, tokens 0 3"),
+    ("a missing step", FIRST, SECOND, ""),
+    ("a step too many", FIRST, SECOND, 2 * SECOND),
+    ("a marking too short", FIRST, SECOND, f"{MOVED} 0 2{NONE[2:]}\n"),
+    ("overflow before the tokens taken have left", FULL, f"{MOVED} 65535", "step 1: refusal 16 at 1, tokens 65535"),
+    ("no overflow", FULL, "step 2: refusal 16 at 1, tokens 65535", "step 2: refusal 0 at 0, tokens 0"),
+    ("15 for 16", FULL, "refusal 16 at 1", "refusal 15 at 1"),
+    ("12 before the sheet's refusal", HEAD, "step 2: refusal 9 at 23", "step 2: refusal 12 at 2"),
+    ("no marking after a refused sheet", HEAD, "at 23, tokens 2", "at 23, tokens 0"),
+    ("a start from a refused sheet", HEAD, "begin 0: refusal 9 at 23, tokens 0", "begin 0: refusal 9 at 23, tokens 2"),
     ("a missing walk", HEAD, LAST, ""),
     ("a walk too many", HEAD, LAST, 2 * LAST),
     ("a missing dot after a walk", HEAD, LAST, LAST[:-2]),
@@ -137,10 +146,6 @@ WRONG_LISTS = [
     ("an end by a signal after a list", HEAD, LAST_LIST, LAST_LIST + "(ended with status -11)"),
 ]
 
-# Every call on the sheets whose listings stand above, with the bad markings that the second program happens to find.
-CALLED = [call_lines(data) for _, data in LISTED]
-RIGHT_CALLS = "".join(map(right_text, CALLED))
-
 REDUCED_5 = f"reduced 5: refusal 0 at 0, coefficients 1 1{NONE}, constant"
 REDUCED_J = "reduced 2: refusal 0 at 0, coefficients 2 -3"
 JUDGED_2 = "verdict 2: refusal 0 at 0, answer"
@@ -149,7 +154,7 @@ ASKED_J = f"pair 2: refusal 0 at 0, answer 2, tokens 3 1{NONE}, by transition 2"
 RECORD_2 = "claim_record 2: refusal 0 at 0, from 29, length 6\n"
 STEP_1 = "step 1: refusal 0 at 0, tokens"
 LIST_3 = "fire_list 3: refusal 12 at 2, position 2, tokens 2 0"
-LAST_CALLS = right_text(CALLED[-1])
+LAST_CALLS = right_text(every_line(CASE_J)) + ".\n"
 
 WRONG_CALLS = [
     ("a count, called", FIRST, "counts 2 1 5", "counts 2 1 4"),
@@ -194,7 +199,7 @@ WRONG_CALLS = [
     ("a refused step that moves, called", FIRST, "step 2: refusal 12 at 2, tokens 1 1", "step 2: refusal 12 at 2, tokens 0 2"),
     ("a refused list that moves, called", FIRST, LIST_3, LIST_3.replace("tokens 2 0", "tokens 1 1")),
     ("another position, called", FIRST, LIST_3, LIST_3.replace("position 2", "position 1")),
-    ("a changed sheet", FIRST, "sheet kept", "sheet changed"),
+    ("a changed sheet, called", FIRST, "\n.\n", "\nsheet changed\n.\n"),
     ("a missing line, called", FIRST, RECORD_2, ""),
     ("a line too many, called", FIRST, RECORD_2, 2 * RECORD_2),
     ("a sheet without answers", CASE_J, LAST_CALLS, ""),

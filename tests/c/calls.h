@@ -6,8 +6,6 @@
 
 #include <stdio.h>
 
-#define MOST 4096 /* bytes of a sheet: none that is sound is longer */
-
 /* A line opens with the call, what it was asked for and its refusal. */
 static void open_line(const char *call, size_t asked, krunvedo_refused refusal) {
   printf("%s %zu: refusal %u at %zu", call, asked, refusal.number, refusal.detail);
@@ -15,30 +13,47 @@ static void open_line(const char *call, size_t asked, krunvedo_refused refusal) 
 
 static void end_line(void) { printf("\n"); }
 
+/* A number of a row, behind a space: most that is printed. By hand, because under an emulator printf takes several times as long. */
+static void number(int n) {
+  char digits[8];
+  size_t at = sizeof digits;
+  unsigned left = (unsigned)(n < 0 ? -n : n);
+  do digits[--at] = (char)('0' + left % 10);
+  while ((left /= 10) > 0);
+  if (n < 0) digits[--at] = '-';
+  digits[--at] = ' ';
+  fwrite(digits + at, 1, sizeof digits - at, stdout);
+}
+
 static void bytes(const char *name, const uint8_t row[KRUNVEDO_PLACES]) {
   printf(", %s", name);
-  for (int p = 0; p < KRUNVEDO_PLACES; p++) printf(" %u", row[p]);
+  for (int p = 0; p < KRUNVEDO_PLACES; p++) number(row[p]);
 }
 
 static void tokens(const uint16_t row[KRUNVEDO_PLACES]) {
   printf(", tokens");
-  for (int p = 0; p < KRUNVEDO_PLACES; p++) printf(" %u", row[p]);
+  for (int p = 0; p < KRUNVEDO_PLACES; p++) number(row[p]);
 }
 
 static void space(const char *call, size_t i, krunvedo_space h) {
   open_line(call, i, h.refusal);
   printf(", coefficients");
-  for (int p = 0; p < KRUNVEDO_PLACES; p++) printf(" %d", h.coefficients[p]);
+  for (int p = 0; p < KRUNVEDO_PLACES; p++) number(h.coefficients[p]);
   printf(", constant %d", h.constant);
   end_line();
 }
 
 /* The counts too: they say what else there is to ask for. */
-static krunvedo_counted show_sheet(krunvedo_bytes sheet) {
+static krunvedo_counted show_read(krunvedo_bytes sheet) {
   krunvedo_counted counts = krunvedo_read(sheet);
   open_line("read", 0, counts.refusal);
   printf(", counts %zu %zu %zu", counts.places, counts.transitions, counts.claims);
   end_line();
+  return counts;
+}
+
+static krunvedo_counted show_sheet(krunvedo_bytes sheet) {
+  krunvedo_counted counts = show_read(sheet);
   krunvedo_tokens start = krunvedo_start(sheet);
   open_line("start", 0, start.refusal);
   tokens(start.tokens);

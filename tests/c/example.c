@@ -4,6 +4,8 @@
 
 #include <string.h>
 
+#define MOST 4096 /* bytes of a sheet: none that is sound is longer */
+
 static uint8_t marks[KRUNVEDO_AREA];
 static uint16_t queue[KRUNVEDO_AREA];
 static uint8_t text[KRUNVEDO_TEXT];

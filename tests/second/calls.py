@@ -1,21 +1,25 @@
-"""What every call of the library must answer on a sheet, in the lines and the order of tests/c/every_call.c.
+"""What each call of the library must answer on a sheet, in the lines and the order of tests/c/requests.c.
 
 Rules and quoted sentences are 01's; the numbers of the answers are those of include/krunvedo.h.
 """
 
-from collections.abc import Iterator, Sequence
+from collections.abc import Iterable, Iterator, Sequence
 from dataclasses import dataclass
-from itertools import product
+from itertools import accumulate, product
 
-from second.held import NO_CLAIM, NO_SHEET, NO_TRANSITION, row
-from second.limits import AREA_SIZE, MOST_PLACES, MOST_TOKENS
+from second.limits import AREA_SIZE, MOST_CLAIMS, MOST_PLACES, MOST_TOKENS, MOST_TRANSITIONS
 from second.listing import Line, lines
-from second.pairs import Pair
-from second.sheet import Refusal, Sheet, claim_record, outside, read, records
+from second.pairs import Pair, Vector
+from second.sheet import Claim, Refusal, Sheet, Transition, outside, read, records
 from second.sums import breaks
 from second.twins import first_twins, reduced
 from second.verdicts import BY_SUMS, verdict
-from second.walk import begun, fired, stepped
+from second.walk import Fired, begun, fired, stepped
+
+# What a refused call holds: zeros alone, and the first kind.
+NO_SHEET = Sheet(n=0, T=0, transitions=(), start=(), kind=0, target=(), claims=())
+NO_TRANSITION = Transition(taken=(), put=())
+NO_CLAIM = Claim(coefficients=(), constant=0)
 
 FINE = Refusal(0, 0)
 VERDICTS = ["refused", "start-outside", "target-inside", "broken", "proof"]
@@ -52,22 +56,34 @@ class Asked:
         return self.refused or outside(t, self.sheet.T, 12)
 
 
-def call_lines(data: bytes) -> list[Line]:
-    """All lines of a sheet, its dot included."""
+def counted_lines(answer: Sheet | Refusal) -> list[Line]:
+    return [Line(read_line(Asked(answer)))]
+
+
+def held_lines(answer: Sheet | Refusal) -> list[Line]:
+    """Every transition and every claim that a sheet can have, with numbers from 0 to one too many."""
+    asked = Asked(answer)
+    return [
+        *map(Line, sheet_lines(asked)),
+        *(Line(weights_line(asked, t)) for t in range(MOST_TRANSITIONS + 2)),
+        *map(Line, claim_lines(asked, range(MOST_CLAIMS + 2))),
+    ]
+
+
+def every_line(data: bytes) -> list[Line]:
+    """The lines of every call."""
     asked = Asked(read(data))
     transitions, claims = numbers(asked.sheet.T), numbers(len(asked.sheet.claims))
-    twins = first_twins(asked.sheet.claims)
     return [
         *map(Line, sheet_lines(asked)),
         *(Line(weights_line(asked, t)) for t in transitions),
-        *(line for index, i in enumerate(claims) for line in claim_lines(asked, i, twins, ENOUGH[index % 2])),
+        *map(Line, claim_lines(asked, claims)),
+        *(verdict_line(asked, i, ENOUGH[index % 2]) for index, i in enumerate(claims)),
         *pair_lines(asked, claims, transitions),
         *too_few_lines(asked),
         *text_lines(asked),
         *map(Line, walk_lines(asked, transitions)),
         *map(Line, list_lines(asked, transitions[1:])),
-        Line("sheet kept"),
-        Line("."),
     ]
 
 
@@ -80,9 +96,19 @@ def refusal(refused: Refusal | None) -> str:
     return "refusal {} at {}".format(*(refused or FINE))
 
 
+def row(values: Sequence[int]) -> str:
+    """Held as 16 numbers, "zero beyond place n"."""
+    return " ".join(map(str, [*values, *(MOST_PLACES - len(values)) * [0]]))
+
+
+def read_line(asked: Asked) -> str:
+    sheet = asked.sheet
+    return f"read 0: {refusal(asked.refused)}, counts {sheet.n} {sheet.T} {len(sheet.claims)}"
+
+
 def sheet_lines(asked: Asked) -> Iterator[str]:
     sheet, words = asked.sheet, refusal(asked.refused)
-    yield f"read 0: {words}, counts {sheet.n} {sheet.T} {len(sheet.claims)}"
+    yield read_line(asked)
     yield f"start 0: {words}, tokens {row(sheet.start)}"
     yield f"target 0: {words}, kind {sheet.kind}, tokens {row(sheet.target)}"
 
@@ -93,22 +119,25 @@ def weights_line(asked: Asked, t: int) -> str:
     return f"weights {t}: {refusal(refused)}, taken {row(taken)}, put {row(put)}"
 
 
-def claim_lines(asked: Asked, i: int, twins: Sequence[int | None], sizes: Sizes) -> Iterator[Line]:
-    refused = asked.claim_refused(i)
-    claim = NO_CLAIM if refused else asked.sheet.claims[i - 1]
-    for call, (coefficients, constant) in [("half_space", claim), ("reduced", reduced(claim))]:
-        yield Line(f"{call} {i}: {refusal(refused)}, coefficients {row(coefficients)}, constant {constant}")
-    yield Line(f"claim_check {i}: {refusal(refused)}")
-    offset, length = (0, 0) if refused else record_place(asked.sheet, i)
-    yield Line(f"claim_record {i}: {refusal(refused)}, from {offset}, length {length}")
-    yield Line(f"twin {i}: {refusal(refused)}, claim {0 if refused else twins[i - 1] or 0}")
-    yield verdict_line(asked, i, sizes)
+def claim_lines(asked: Asked, numbers: Iterable[int]) -> Iterator[str]:
+    """The claim's own lines: what its record holds, and where that stands."""
+    twins, places = first_twins(asked.sheet.claims), record_places(asked.sheet)
+    for i in numbers:
+        refused = asked.claim_refused(i)
+        claim = NO_CLAIM if refused else asked.sheet.claims[i - 1]
+        for call, (coefficients, constant) in [("half_space", claim), ("reduced", reduced(claim))]:
+            yield f"{call} {i}: {refusal(refused)}, coefficients {row(coefficients)}, constant {constant}"
+        yield f"claim_check {i}: {refusal(refused)}"
+        offset, length = (0, 0) if refused else places[i - 1]
+        yield f"claim_record {i}: {refusal(refused)}, from {offset}, length {length}"
+        yield f"twin {i}: {refusal(refused)}, claim {0 if refused else twins[i - 1] or 0}"
 
 
-def record_place(sheet: Sheet, i: int) -> tuple[int, int]:
-    """Where the record of a claim stands, "mark included", behind those of NP, TR, MK, TG and the claims before it."""
-    before = records(sheet)[: len(sheet.transitions) + 3 + i - 1]
-    return sum(map(len, before)), len(claim_record(sheet.claims[i - 1]))
+def record_places(sheet: Sheet) -> list[tuple[int, int]]:
+    """Where each claim's record stands and how long it is, "mark included": behind those of NP, TR, MK and TG."""
+    lengths = list(map(len, records(sheet)))
+    starts = accumulate(lengths, initial=0)
+    return list(zip(starts, lengths))[len(sheet.transitions) + 3 :]
 
 
 def small_area(sizes: Sizes) -> Refusal | None:
@@ -141,10 +170,12 @@ def verdict_line(asked: Asked, i: int, sizes: Sizes) -> Line:
 
 def pair_line(asked: Asked, i: int, t: int, sizes: Sizes) -> Line:
     refused = asked.claim_refused(i) or asked.transition_refused(t) or small_area(sizes)
-    answer, broken = 0, None
-    if not refused:
-        pair = Pair(asked.sheet.claims[i - 1], asked.sheet.transitions[t - 1])
-        answer, broken = (2, pair) if breaks(pair) else (1, None)
+    pair = None if refused else Pair(asked.sheet.claims[i - 1], asked.sheet.transitions[t - 1])
+    return pair_answer(refused, pair if pair and breaks(pair) else None, i, t, sizes)
+
+
+def pair_answer(refused: Refusal | None, broken: Pair | None, i: int, t: int, sizes: Sizes) -> Line:
+    answer = 0 if refused else 2 if broken else 1
     closing = f", by transition {t}{areas(refused, sizes)}"
     return marked(f"pair {i}: {refusal(refused)}, answer {answer}", broken, closing)
 
@@ -164,19 +195,31 @@ def too_few_lines(asked: Asked) -> Iterator[Line]:
 
 
 def text_lines(asked: Asked) -> Iterator[Line]:
-    for sizes, room in [
-        (ENOUGH[0], TEXT_SIZE),
-        (ENOUGH[1], TEXT_SIZE + 1),
-        (ENOUGH[0], TEXT_SIZE - 1),
-        (TOO_FEW[0], TEXT_SIZE - 1),
-        (TOO_FEW[1], TEXT_SIZE),
-    ]:
-        refused = asked.refused or small_area(sizes) or small_text(room)
-        yield Line(f"listing: {written(refused, room)}{areas(refused, sizes)}")
-        yield from [] if refused else lines(asked.answer)
-    yield Line(f"refusal_text: {written(None, TEXT_SIZE)}")
-    yield Line((asked.refused or FINE).words())
+    yield from listing_lines(asked, ENOUGH[0], TEXT_SIZE)
+    yield from listing_lines(asked, ENOUGH[1], TEXT_SIZE + 1)
+    yield from listing_lines(asked, ENOUGH[0], TEXT_SIZE - 1)
+    yield from listing_lines(asked, TOO_FEW[0], TEXT_SIZE - 1)
+    yield from listing_lines(asked, TOO_FEW[1], TEXT_SIZE)
+    yield from refusal_text_lines(asked.refused or FINE)
     yield Line(f"refusal_text: {written(small_text(TEXT_SIZE - 1), TEXT_SIZE - 1)}")
+
+
+def listing_lines(asked: Asked, sizes: Sizes, room: int) -> Iterator[Line]:
+    refused = asked.refused or small_area(sizes) or small_text(room)
+    yield Line(f"listing: {written(refused, room)}{areas(refused, sizes)}")
+    yield from [] if refused else lines(asked.answer)
+
+
+def refusal_text_lines(refused: Refusal) -> Iterator[Line]:
+    yield Line(f"refusal_text: {written(None, TEXT_SIZE)}")
+    yield Line(refused.words())
+
+
+def page_lines(answer: Sheet | Refusal) -> list[Line]:
+    """The listing, or the line of its refusal."""
+    asked = Asked(answer)
+    refusal_text = refusal_text_lines(asked.refused) if asked.refused else []
+    return [*listing_lines(asked, ENOUGH[0], TEXT_SIZE), *refusal_text]
 
 
 def small_text(room: int) -> Refusal | None:
@@ -190,22 +233,36 @@ def written(refused: Refusal | None, room: int) -> str:
 
 
 def walk_lines(asked: Asked, transitions: list[int]) -> Iterator[str]:
-    """From the start with other numbers beyond n, and from nearly full places; a refused step moves nothing."""
-    start = begun(asked.sheet)
-    yield f"begin 0: {refusal(asked.refused)}, tokens {row(start)}"
+    """From the start with other numbers beyond n, and from nearly full places."""
+    yield begin_line(asked)
     n = asked.sheet.n
     beyond = tuple(7 + place for place in range(n, MOST_PLACES))
-    for marking in [start[:n] + beyond, NEARLY_FULL]:
-        for t in transitions:
-            after = stepped(asked.answer, marking, t)
-            refused = after if isinstance(after, Refusal) else None
-            marking = marking if refused else after
-            yield f"step {t}: {refusal(refused)}, tokens {row(marking)}"
+    for marking in [asked.sheet.start + beyond, NEARLY_FULL]:
+        yield from step_lines(asked, marking, transitions)
+
+
+def begin_line(asked: Asked) -> str:
+    return f"begin 0: {refusal(asked.refused)}, tokens {row(begun(asked.sheet))}"
+
+
+def step_lines(asked: Asked, marking: Vector, transitions: Iterable[int]) -> Iterator[str]:
+    """A refused step moves nothing, and the walk goes on."""
+    for t in transitions:
+        after = stepped(asked.answer, marking, t)
+        refused = after if isinstance(after, Refusal) else None
+        marking = marking if refused else after
+        yield f"step {t}: {refusal(refused)}, tokens {row(marking)}"
 
 
 def list_lines(asked: Asked, transitions: list[int]) -> Iterator[str]:
     """In one list the transitions but 0, then those that there are, then none; from the start and from nearly full places."""
     for marking in [begun(asked.sheet), NEARLY_FULL]:
         for length in [len(transitions), asked.sheet.T, 0]:
-            refused, position, marking = fired(asked.answer, marking, transitions[:length])
-            yield f"fire_list {length}: {refusal(refused)}, position {position}, tokens {row(marking)}"
+            answer = fired(asked.answer, marking, transitions[:length])
+            marking = answer.marking
+            yield list_line(answer, length)
+
+
+def list_line(answer: Fired, length: int) -> str:
+    refused, position, marking = answer
+    return f"fire_list {length}: {refusal(refused)}, position {position}, tokens {row(marking)}"

@@ -1,11 +1,10 @@
 """The first line that judge prints for a sheet; for a refused one it is all that judge prints."""
 
-from second.sheet import Refusal, Sheet, read
+from second.sheet import Refusal, Sheet
 
 
-def first_line(data: bytes) -> str:
+def first_line(answer: Sheet | Refusal) -> str:
     """ "Each line ends with one newline byte"."""
-    answer = read(data)
     return (answer.words() if isinstance(answer, Refusal) else counts(answer)) + "\n"
 
 

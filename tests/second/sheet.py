@@ -146,11 +146,11 @@ def records(sheet: Sheet) -> list[bytes]:
         *(b"TR" + _in_bytes(transition.taken + transition.put) for transition in sheet.transitions),
         b"MK" + _in_pairs(sheet.start),
         b"TG" + _in_bytes([sheet.kind]) + _in_pairs(sheet.target),
-        *map(claim_record, sheet.claims),
+        *map(_claim_record, sheet.claims),
     ]
 
 
-def claim_record(claim: Claim) -> bytes:
+def _claim_record(claim: Claim) -> bytes:
     """The record of a claim, mark included."""
     return b"HS" + _in_bytes(claim.coefficients) + _in_pairs([claim.constant])
 
