@@ -6,11 +6,11 @@ ghost use Rattle.claims.specs.Part.{IsPart, recordAt, recordBytes};
 use layout::behind_claims;
 use reader::Reading;
 use reader::read;
-use rows::numbers_at;
 use refusals::Check;
+use refusals::Refusal;
+use rows::numbers_at;
 use terms::Claim;
 use terms::Place;
-use refusals::Refusal;
 use terms::among;
 
 pub struct HalfSpace {

@@ -9,9 +9,9 @@ ghost use Rattle.format.specs.Read.{need};
 ghost use Rattle.format.specs.Reading.{markedAt, wholeAt, openedAt, eachFits, signedWord};
 ghost use Rattle.fields.specs.Checked.{checked};
 use refusals::Check;
+use refusals::Refusal;
 use terms::Coefficient;
 use terms::Constant;
-use refusals::Refusal;
 use terms::Weight;
 
 pub fn refuse(number: u8, at: usize) -> Check

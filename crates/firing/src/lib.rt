@@ -7,8 +7,8 @@ ghost use Rattle.refusals.specs.declared.Check.the-variants.{Fine};
 ghost use Rattle.firing.specs.Firing.{lowestShort, lowestOver, firedIn};
 ghost use Rattle.firing.specs.Weighted.{weighted};
 use refusals::Check;
-use terms::Place;
 use refusals::Refusal;
+use terms::Place;
 use terms::wide;
 
 // The lowest place that has fewer tokens than are taken.

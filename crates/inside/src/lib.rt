@@ -7,8 +7,8 @@ ghost use Rattle.nets.specs.Verdicts.{Setting, TargetInside};
 ghost use Rattle.format.specs.Reading.{words, targetIn};
 ghost use Rattle.values.specs.Ready.{space};
 ghost use Rattle.tables.specs.Told.{Says};
-use tables::signs::some_above;
 use rows::tokens_from;
+use tables::signs::some_above;
 use terms::Place;
 use values::value_of;
 

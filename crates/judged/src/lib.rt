@@ -1,8 +1,8 @@
 // The answer of a call that judges a half space, and what it says.
 ghost use mathlib.Core.Path.{_≡_};
 ghost use Rattle.judged.specs.Judges.{plainJudged};
-use terms::Place;
 use refusals::Refusal;
+use terms::Place;
 use terms::Transition;
 
 // The four verdicts in their order, or a refusal. Broken names the lowest transition that breaks the claim.

@@ -36,9 +36,9 @@ use numbers::verdict_number;
 use numbers::verdict_transition;
 use numbers::written_number;
 use parts::record_from;
+use refusals::Refusal;
 use terms::Claim;
 use terms::Place;
-use refusals::Refusal;
 use terms::Transition;
 use walk::Marking;
 

@@ -18,9 +18,9 @@ use phrases::refusal_page;
 use reader::Counts;
 use reader::Reading;
 use reader::read;
-use terms::Area;
 use refusals::Check;
 use refusals::Refusal;
+use terms::Area;
 use terms::Text;
 
 // How long the text is, or a refusal.

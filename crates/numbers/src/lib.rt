@@ -4,9 +4,9 @@ ghost use Rattle.numbers.specs.Numbers.{refusalIs, checkIs, readingIs, k
 use listing::Listed;
 use reader::Reading;
 use refusals::Check;
+use refusals::Refusal;
 use terms::Kind;
 use terms::Place;
-use refusals::Refusal;
 use twins::Twin;
 
 // Both are 0 where nothing is refused.

@@ -7,11 +7,11 @@ use asking::ask;
 use reader::Counts;
 use reader::Reading;
 use reader::read;
-use terms::Area;
 use refusals::Check;
+use refusals::Refusal;
+use terms::Area;
 use terms::Claim;
 use terms::Place;
-use refusals::Refusal;
 use terms::Transition;
 use terms::among;
 

@@ -5,8 +5,8 @@ ghost use lib.ListN.{length, take};
 ghost use Rattle.text.specs.Bytes.{Wrote, chars, decimal};
 ghost use Rattle.phrases.specs.Phrases.{countsLine, refusedLine, refusalLine, tokensText, twinText};
 use reader::Counts;
-use terms::Place;
 use refusals::Refusal;
+use terms::Place;
 use text::labelled;
 use text::put;
 

@@ -8,9 +8,9 @@ mod runs; // runs.rt: records of one kind, one after the other
 
 use front::front;
 use records::Measured;
-use runs::claims;
 use refusals::Check;
 use refusals::Refusal;
+use runs::claims;
 
 pub struct Counts {
     pub places: usize,

@@ -13,9 +13,9 @@ use layout::claims_from;
 use records::claim;
 use records::transition;
 use refusals::Check;
-use terms::Claim;
 use refusals::Detail;
 use refusals::Refusal;
+use terms::Claim;
 
 // The transitions' records, from the head on.
 pub fn transitions(s: &[u8], n: usize, t: usize) -> Check

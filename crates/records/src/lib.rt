@@ -12,9 +12,9 @@ use fields::refuse;
 use fields::weights;
 use fields::whole;
 use refusals::Check;
+use refusals::Refusal;
 use terms::Kind;
 use terms::Place;
-use refusals::Refusal;
 use terms::Transition;
 use terms::among;
 

@@ -6,12 +6,12 @@ use layout::behind_transitions;
 use layout::target_from;
 use reader::Reading;
 use reader::read;
+use refusals::Check;
+use refusals::Refusal;
 use rows::tokens_from;
 use rows::weights_from;
-use refusals::Check;
 use terms::Kind;
 use terms::Place;
-use refusals::Refusal;
 use terms::Transition;
 use terms::among;
 

@@ -19,11 +19,11 @@ use reader::Reading;
 use reader::read;
 use reduction::Form;
 use reduction::reduced;
-use rows::numbers_at;
 use refusals::Check;
+use refusals::Refusal;
+use rows::numbers_at;
 use terms::Claim;
 use terms::Place;
-use refusals::Refusal;
 use terms::among;
 
 pub struct Reduced {

@@ -17,10 +17,10 @@ use lent::wipe;
 use reader::Counts;
 use reader::Reading;
 use reader::read;
-use terms::Area;
 use refusals::Check;
-use terms::Claim;
 use refusals::Refusal;
+use terms::Area;
+use terms::Claim;
 use terms::among;
 
 // The refusals in their order, by the counts of the sheet.

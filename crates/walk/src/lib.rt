@@ -12,11 +12,11 @@ use layout::behind_transitions;
 use reader::Counts;
 use reader::Reading;
 use reader::read;
+use refusals::Check;
+use refusals::Refusal;
 use rows::weights_from;
 use sheet::start_of;
-use refusals::Check;
 use terms::Place;
-use refusals::Refusal;
 use terms::Transition;
 use terms::among;
 
