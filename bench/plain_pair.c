@@ -1,4 +1,4 @@
-// plain_pair: answers questions about pairs by the same method as crates/pairs and crates/search: a breadth-first search over values,
+// plain_pair: answers questions about pairs by the same method as crates/search and those below it: a breadth-first search over values,
 // in a table that just holds the window of Theorem 1 and one step on either side, by steps of each coefficient but 0 once.
 #include "pair_program.h"
 #include "plain_sheet.h"

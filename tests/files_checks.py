@@ -42,6 +42,7 @@ def check_files(checks: Checks) -> None:
     print(f"files: {len(files)} that {'git knows' if known else 'are there, since git knows none'}")
     checks.at_least("files", LEAST_FILES, len(files))
     checks.equal("files at no place where one is expected", b"", [], strays(files))
+    checks.equal("files of the tests and measures that no other file names", b"", [], unnamed(files))
     crates = {file.split("/")[1] for file in files if file.startswith("crates/")}
     listed = {line.split(":")[0] for line in (ROOT / "crates.txt").read_text().splitlines() if not line.startswith("#")}
     checks.equal("crates that crates.txt does not list", b"", [], sorted(crates - listed))
@@ -66,6 +67,18 @@ def files_there(root: Path) -> list[str]:
 def strays(files: list[str]) -> list[str]:
     expected = re.compile("|".join(f"(?:{place})" for place in EXPECTED))
     return [file for file in files if not expected.fullmatch(file)]
+
+
+def unnamed(files: list[str]) -> list[str]:
+    """Below tests/ and the like a file may have any name, so it counts as a stray where nothing uses or mentions it."""
+    open_names = [file for file in files if re.match(r"(?:tests|bench|examples|include|scripts)/", file)]
+    texts = {file: (ROOT / file).read_text("utf-8", "replace") for file in files}
+
+    def named(file: str) -> bool:
+        name = re.compile(rf"(?<![\w-]){re.escape(Path(file).stem)}(?![\w-])")
+        return any(name.search(text) for other, text in texts.items() if other != file)
+
+    return [file for file in open_names if not named(file)]
 
 
 if __name__ == "__main__":

@@ -1,4 +1,4 @@
-// A claim and a transition of a sheet that was read, put to the core.
+// A claim and a transition of a sheet that was read: whether some marking inside leads outside, asked of crate `crossing`.
 ghost use mathlib.Core.Path.{_≡_};
 ghost use Prim.Native.Nat.{_≤_};
 ghost use lib.ListN.{length};
@@ -39,7 +39,7 @@ fn ask_in(
     crossing_of(k, h.constant, sheet, n, at, marks, queue)
 }
 
-// The same in areas that may be longer, and that are wiped afterwards.
+// The same as `ask_in`, in areas that may be longer and that are wiped afterwards.
 pub fn ask(
     sheet: &[u8],
     counts: Counts,

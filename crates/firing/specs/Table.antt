@@ -1,4 +1,4 @@
--- When a step is refused, in the words of document 01's table and over the net alone: `proofs/Exactly.antt` shows that `stepOf` answers so.
+-- When a step is refused, in the words of document 01's table and over the net alone: `walk/proofs/Exactly.antt` shows that `stepOf` of walk answers so.
 use mathlib.Core.List.{List, [], _∷_}
 use Prim.Native.Nat.{ℕ, _-_, _≤_, _<_}
 use lib.ListN.{getD}

@@ -7,7 +7,7 @@ use native.Mathlib.Omega.{arith}
 use lib.Dec.{leb}
 use lib.ListN.{length, length-append}
 use borrow.Author.Tests.{leb-false, lt-leb}
-use Rattle.refusals.specs.Refusals.{noClaim}
+use Rattle.refusals.specs.Refusals.{claimless}
 use Rattle.terms.specs.Limits.{mostClaims}
 use Rattle.nets.specs.Nets.{Transition}
 use Rattle.nets.specs.Verdicts.{Setting}
@@ -104,10 +104,10 @@ module _ (s : List ℕ) (small : IsSheet s) where
   unfolding claimsOf
   claims-exactly z is = (
     λ e. ⊎-elim
-        (λ w. absurd (never-both (noClaim (length s)) is (w .1)))
+        (λ w. absurd (never-both (claimless (length s)) is (w .1)))
         (λ w. let c = claims-read s small (z .n) (claimsFrom z) mostClaims is (w .1) in
         (some-claim (z .n) (claimsFrom z) mostClaims is (leb-false (length s) (claimsFrom z) (w .0)) c, c))
-        (choose-either (leb (length s) (claimsFrom z)) (refused (noClaim (length s))) (claimsAt s (z .n) (claimsFrom z) mostClaims) is e),
+        (choose-either (leb (length s) (claimsFrom z)) (refused (claimless (length s))) (claimsAt s (z .n) (claimsFrom z) mostClaims) is e),
     λ w. rw (lt-leb (length s) (claimsFrom z) (some-byte (z .n) (claimsFrom z) mostClaims is (w .0) (w .1)))
         (claims-sound s small (z .n) (claimsFrom z) mostClaims is (w .1)),
   )

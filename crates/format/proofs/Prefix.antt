@@ -10,7 +10,7 @@ use lib.ListN.{length, take, length-take}
 use lib.Seq.{getD-take}
 use borrow.Author.Tests.{leb-true, leb-false, le-leb, lt-leb}
 use Rattle.terms.specs.Limits.{weightFits, coefficientFits, mostClaims}
-use Rattle.refusals.specs.Refusals.{noClaim}
+use Rattle.refusals.specs.Refusals.{claimless}
 use Rattle.signed.specs.Twos.{twos8}
 use Rattle.format.specs.Read.{Read, sound, refused, _>>=_, choose}
 use Rattle.format.specs.Reading.{byte, bytes, words, markedAt, wholeAt, openedAt, eachFits, headSize, transitionSize, startSize, targetSize, claimSize, Size, headOf, transitionAt, transitionsAt, startAt, targetAt, claimAt, claimDue, claimsAt, transitionsFrom, startFrom, targetFrom, claimsFrom, settingOf, claimsOf, reading}
@@ -110,7 +110,7 @@ module _ (s : List ℕ) (k : ℕ) where
       rw (ends-first at (omega arith), due-first n at (suc more) (omega arith) (omega arith), claims-first n (at + claimSize n) more l)
 
   -- 9's detail is the length, where the sheet is short
-  pub none-first : {A : Type 0} (at : ℕ) (t : Bool) (x : Read A) → at < k → leb (length s) at ≡ t → choose t (refused (noClaim (length (take k s)))) x ≡ choose t (refused (noClaim (length s))) x
+  pub none-first : {A : Type 0} (at : ℕ) (t : Bool) (x : Read A) → at < k → leb (length s) at ≡ t → choose t (refused (claimless (length (take k s)))) x ≡ choose t (refused (claimless (length s))) x
   none-first at true x h e =
       let l : length s ≤ at = leb-true (length s) at e in
       let same : length (take k s) ≡ length s = rw length-take (omega arith) in

@@ -7,7 +7,7 @@ use lib.IntN.{ℤ}
 use lib.ListN.{length, getD}
 use Rattle.signed.specs.Twos.{twos8, twos16}
 use Rattle.terms.specs.Limits.{placesFit, transitionsFit, weightFits, coefficientFits, constantFits, kindFits, mostClaims}
-use Rattle.refusals.specs.Refusals.{noClaim}
+use Rattle.refusals.specs.Refusals.{claimless}
 use Rattle.nets.specs.Nets.{Marking, Transition}
 use Rattle.nets.specs.Verdicts.{Kind, exact, atOrAbove, Target, Setting}
 use Rattle.format.specs.Read.{Read, sound, refused, _>>=_, _>>_, need, choose}
@@ -175,7 +175,7 @@ frontOf s = do
 
 -- one claim or more: no byte after TG is 9, with the sheet's length
 unfoldable pub claimsOf : List ℕ → Size → Read (List Claim)
-claimsOf s z = choose (leb (length s) (claimsFrom z)) (refused (noClaim (length s))) (claimsAt s (z .n) (claimsFrom z) mostClaims)
+claimsOf s z = choose (leb (length s) (claimsFrom z)) (refused (claimless (length s))) (claimsAt s (z .n) (claimsFrom z) mostClaims)
 
 -- the sheet
 unfoldable pub reading : List ℕ → Read Contents

@@ -8,7 +8,7 @@ use lib.Dec.{leb, ltb, eqb}
 use lib.ListN.{length, take}
 use Rattle.signed.specs.Twos.{twos8}
 use Rattle.terms.specs.Limits.{among, areasFit, textSize, placesFit, transitionsFit, weightFits, coefficientFits, constantFits, kindFits, mostClaims}
-use Rattle.refusals.specs.Refusals.{noClaim, notAClaim, notATransition, smallArea, smallText, notEnabled, tooMany}
+use Rattle.refusals.specs.Refusals.{claimless, notAClaim, notATransition, smallArea, smallText, notEnabled, tooMany}
 use Rattle.terms.specs.declared.Claim.{Claim}
 use Rattle.terms.specs.declared.Place.{Place}
 use Rattle.refusals.specs.declared.Refusal.{Refusal}
@@ -116,7 +116,7 @@ module _ (s : List ℕ) where
 
   some-claims : (z : Size) → Numbered (claimsOf s z)
   unfolding claimsOf
-  some-claims z = chosen (leb (length s) (claimsFrom z)) _ _ (with-number (noClaim (length s)) (omega arith)) (claims (z .n) (claimsFrom z) mostClaims)
+  some-claims z = chosen (leb (length s) (claimsFrom z)) _ _ (with-number (claimless (length s)) (omega arith)) (claims (z .n) (claimsFrom z) mostClaims)
 
   sheet-numbered : Numbered (reading s)
   unfolding reading

@@ -42,7 +42,7 @@ fn checked(marks: usize, queue: usize, room: usize) -> Check
     Check::Fine
 }
 
-// The same in areas that may be longer, and that are wiped afterwards.
+// All lines, with areas that may be longer and that are wiped afterwards.
 fn written(
     sheet: &[u8],
     counts: Counts,

@@ -1,4 +1,4 @@
-// What a program prints of a sheet.
+// The page: what `judge` prints of any sheet, sound or not.
 ghost use mathlib.Core.Path.{_≡_};
 ghost use Prim.Native.Nat.{_≤_};
 ghost use lib.ListN.{length, take};

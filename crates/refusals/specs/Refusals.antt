@@ -21,9 +21,9 @@ detailOf Nothing = 0
 abbrev pub refusedAt : ℕ → ℕ → Refusal
 refusedAt number at = record { number = number; detail = Byte at }
 
--- 9, with the sheet's length; 11, with the claim number asked; 12, with the transition number asked
-abbrev pub noClaim : ℕ → Refusal
-noClaim n = record { number = 9; detail = Length n }
+-- 9, with the sheet's length: no claim follows TG; 11, with the claim number asked; 12, with the transition number asked
+abbrev pub claimless : ℕ → Refusal
+claimless n = record { number = 9; detail = Length n }
 
 abbrev pub notAClaim : Claim → Refusal
 notAClaim i = record { number = 11; detail = OfClaim i }

@@ -1,4 +1,4 @@
-// The search: from each entry of the queue in its order, one step by each place. A position's mark names the place whose step led there first.
+// A breadth-first search over positions: from each entry of the queue in its order, one step by each place. A position's mark names the place whose step led there first.
 ghost use mathlib.Core.Path.{_≡_};
 ghost use Prim.Native.Nat.{_<_, _≤_};
 ghost use lib.ListN.{length, getD, replicate};

@@ -1,4 +1,4 @@
--- `places::fired` meets its contract: after p turns the first p places have what the firing leaves there, and the rest is as it was.
+-- `firing::fired` meets its contract: after p turns the first p places have what the firing leaves there, and the rest is as it was.
 use mathlib.Core.Path.{_≡_, refl, _∙_, ap}
 use native.Mathlib.Omega.{arith}
 use Prim.Native.Nat.{_+_, _-_, _≤_}

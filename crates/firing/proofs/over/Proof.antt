@@ -1,4 +1,4 @@
--- `places::over` meets its contract: the first place that would have too many is the lowest, and none is short, so nothing is taken below zero.
+-- `firing::over` meets its contract: the first place that would have too many is the lowest, and none is short, so nothing is taken below zero.
 use mathlib.Core.Path.{_≡_, _∙_, sym, ap}
 use native.Mathlib.Omega.{arith}
 use Prim.Native.Nat.{_-_, _≤_}

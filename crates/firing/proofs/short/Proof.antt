@@ -1,4 +1,4 @@
--- `places::short` meets its contract: the first place that is short is the lowest, and those before it are passed.
+-- `firing::short` meets its contract: the first place that is short is the lowest, and those before it are passed.
 use mathlib.Core.Path.{_≡_, _∙_, sym, ap}
 use native.Mathlib.Omega.{arith}
 use Prim.Native.Nat.{_-_, _≤_}

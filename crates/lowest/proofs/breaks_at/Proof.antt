@@ -1,4 +1,4 @@
--- `transitions::breaks_at` meets its contract: the two values are those of the weights taken and put.
+-- `lowest::breaks_at` meets its contract: the two values are those of the weights taken and put.
 use mathlib.Core.Path.{_≡_, sym, _∙_}
 use lib.ListN.{take}
 use mir.Syntax.{w32}

@@ -1,4 +1,4 @@
--- `transitions::first_broken` meets its contract: after t turns the first t transitions keep the half space.
+-- `lowest::first_broken` meets its contract: after t turns the first t transitions keep the half space.
 use mathlib.Core.Path.{_≡_, ap, _∙_, subst}
 use mathlib.Core.Bool.{Bool}
 use Prim.Native.Nat.{ℕ, _+_, _*_, _-_, _≤_}

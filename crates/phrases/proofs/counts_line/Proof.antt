@@ -1,4 +1,4 @@
--- `lines::counts_line` meets its contract: the pieces stand one behind the other.
+-- `phrases::counts_line` meets its contract: the pieces stand one behind the other.
 use mathlib.Core.List.{_++_}
 use Prim.Native.Nat.{_+_, _≤_}
 use native.Mathlib.Omega.{arith}

@@ -1,4 +1,4 @@
--- `lines::refusal_line` meets its contract: the pieces stand one behind the other. A byte has three digits, a detail twenty.
+-- `phrases::refusal_line` meets its contract: the pieces stand one behind the other. A byte has three digits, a detail twenty.
 use mathlib.Core.List.{_++_}
 use Prim.Native.Nat.{_≤_}
 use native.Mathlib.Omega.{arith}

@@ -1,4 +1,4 @@
--- `lines::tokens` meets its contract: after p turns the tokens of the first p places are written, in at most six bytes each.
+-- `phrases::tokens` meets its contract: after p turns the tokens of the first p places are written, in at most six bytes each.
 use mathlib.Core.Path.{_≡_, refl, sym, _∙_, subst}
 use mathlib.Core.List.{List, [], _++_}
 use Prim.Native.Nat.{ℕ, _+_, _*_, _-_, _≤_}

@@ -1,4 +1,4 @@
--- `lines::tokens_of_one` meets its contract: five digits are enough for 65,535.
+-- `phrases::tokens_of_one` meets its contract: five digits are enough for 65,535.
 use native.Mathlib.Omega.{arith}
 use Rattle.phrases.proofs.Texts.{one-short}
 use borrow.Author.Needs.{needs}

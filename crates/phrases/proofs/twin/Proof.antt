@@ -1,4 +1,4 @@
--- `lines::twin` meets its contract: nothing for 0, and else the word and the number.
+-- `phrases::twin` meets its contract: nothing for 0, and else the word and the number.
 use mathlib.Core.Path.{_≡_, refl, sym, subst}
 use mathlib.Core.List.{List, _++_}
 use Prim.Native.Nat.{ℕ, zero, suc}
