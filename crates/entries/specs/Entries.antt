@@ -6,7 +6,7 @@ use lib.ListN.{length}
 use Rattle.nets.specs.Verdicts.{Verdict, IsVerdict}
 use Rattle.format.specs.Contents.{Contents, halfSpace, claim}
 use Rattle.twins.specs.Answers.{IsTwinNumber}
-use Rattle.phrases.specs.Phrases.{countsLine}
+use Rattle.firstline.specs.FirstLine.{countsLine}
 use Rattle.lines.specs.Lines.{claimLine}
 
 -- the line of claim i: its verdict, and its lowest earlier twin

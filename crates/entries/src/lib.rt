@@ -9,9 +9,9 @@ ghost use Rattle.format.specs.Reading.{reading};
 ghost use Rattle.known.specs.Known.{Known};
 ghost use Rattle.text.specs.Bytes.{Wrote};
 ghost use Rattle.entries.specs.Entries.{IsLine, IsListing};
+use firstline::counts_line;
 use judging::judge_claim;
 use lines::claim_line;
-use phrases::counts_line;
 use reader::Counts;
 use twins::first_twin;
 

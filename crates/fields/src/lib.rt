@@ -8,11 +8,11 @@ ghost use Rattle.refusals.specs.Refusals.{refusedAt};
 ghost use Rattle.format.specs.Read.{need};
 ghost use Rattle.format.specs.Reading.{markedAt, wholeAt, openedAt, eachFits, signedWord};
 ghost use Rattle.fields.specs.Checked.{checked};
+use amounts::Coefficient;
+use amounts::Constant;
+use amounts::Weight;
 use refusals::Check;
 use refusals::Refusal;
-use terms::Coefficient;
-use terms::Constant;
-use terms::Weight;
 
 pub fn refuse(number: u8, at: usize) -> Check
     ensures { λ r. ⌜ r ≡ Check.Refused (refusedAt number at) ⌝ }

@@ -19,7 +19,7 @@ use Rattle.judged.specs.declared.Judged.{Judged}
 use Rattle.twins.specs.Answers.{IsReducedOf, IsTwinOf}
 use Rattle.twins.specs.declared.Reduced.{Reduced}
 use Rattle.twins.specs.declared.Twin.{Twin}
-use Rattle.phrases.specs.Phrases.{refusedLine}
+use Rattle.firstline.specs.FirstLine.{refusedLine}
 use Rattle.listing.specs.Listed.{IsListed}
 use Rattle.listing.specs.declared.Listed.{Listed}
 use Rattle.listing.specs.declared.Listed.the-variants as listed

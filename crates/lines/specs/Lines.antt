@@ -2,8 +2,8 @@
 use mathlib.Core.List.{List, [], _++_}
 use Prim.Native.Nat.{ℕ, _<_}
 use Rattle.nets.specs.Verdicts.{Verdict, start-outside, target-inside, broken, proof}
-use Rattle.text.specs.Bytes.{chars, decimal}
-use Rattle.phrases.specs.Phrases.{newline, tokensText, twinText}
+use Rattle.text.specs.Bytes.{chars, decimal, newline}
+use Rattle.phrases.specs.Phrases.{tokensText, twinText}
 use Rattle.judged.specs.declared.Answer.{Answer}
 use Rattle.judged.specs.declared.Answer.the-variants as answers
 

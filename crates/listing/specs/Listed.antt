@@ -12,7 +12,7 @@ use Rattle.format.specs.Read.{Read, sound, refused, choose}
 use Rattle.format.specs.Contents.{Contents}
 use Rattle.refusals.specs.declared.Check.{Check}
 use Rattle.refusals.specs.declared.Check.the-variants.{Fine, Refused}
-use Rattle.phrases.specs.Phrases.{refusalLine}
+use Rattle.firstline.specs.FirstLine.{refusalLine}
 use Rattle.entries.specs.Entries.{IsListing}
 use Rattle.listing.specs.declared.Listed.{Listed}
 use Rattle.listing.specs.declared.Listed.the-variants as listed

@@ -8,10 +8,10 @@ ghost use Rattle.signed.specs.Twos.{twos8};
 ghost use Rattle.format.specs.Reading.{bytes, claimIn};
 ghost use Rattle.reduction.specs.Divisors.{spaceOf};
 ghost use Rattle.multiples.specs.Multiples.{IsMultiple, Tells, entry, IsPivot, factorOf};
+use amounts::Coefficient;
+use amounts::Constant;
 use reduction::Form;
 use reduction::euclid::wide;
-use terms::Coefficient;
-use terms::Constant;
 use terms::Place;
 use terms::size;
 

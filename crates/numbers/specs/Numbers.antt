@@ -6,8 +6,8 @@ use Rattle.refusals.specs.declared.Check.{Check}
 use Rattle.refusals.specs.declared.Check.the-variants.{Fine, Refused}
 use Rattle.reader.specs.declared.Reading.{Reading}
 use Rattle.reader.specs.declared.Reading.the-variants.{Sound, Malformed}
-use Rattle.terms.specs.declared.Kind.{Kind}
-use Rattle.terms.specs.declared.Kind.the-variants.{Exact, AtOrAbove}
+use Rattle.amounts.specs.declared.Kind.{Kind}
+use Rattle.amounts.specs.declared.Kind.the-variants.{Exact, AtOrAbove}
 use Rattle.sheet.specs.declared.Weights.{Weights}
 use Rattle.sheet.specs.declared.Start.{Start}
 use Rattle.sheet.specs.declared.Target as sheet

@@ -1,11 +1,11 @@
 // Answers as C takes them: numbers and rows of numbers, laid out as C lays them out. An enum's case is a number here.
 ghost use mathlib.Core.Path.{_≡_};
 ghost use Rattle.numbers.specs.Numbers.{refusalIs, checkIs, readingIs, kindIs, twinIs, pairNumber, pairRefusal, listedIs, verdictNumber, verdictRefusal, verdictTransition};
+use amounts::Kind;
 use listing::Listed;
 use reader::Reading;
 use refusals::Check;
 use refusals::Refusal;
-use terms::Kind;
 use terms::Place;
 use twins::Twin;
 

@@ -13,7 +13,7 @@ use Rattle.refusals.specs.declared.Check.{Check}
 use Rattle.refusals.specs.declared.Check.the-variants.{Fine}
 use Rattle.text.specs.Bytes.{Wrote}
 use Rattle.text.proofs.Writing.{length-written, whole}
-use Rattle.phrases.specs.Phrases.{refusalLine}
+use Rattle.firstline.specs.FirstLine.{refusalLine}
 use Rattle.entries.specs.Entries.{IsListing}
 use Rattle.listing.specs.declared.Listed.{Listed}
 use Rattle.listing.specs.declared.Listed.the-variants as listed

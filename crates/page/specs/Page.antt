@@ -5,7 +5,7 @@ use Prim.Native.Nat.{ℕ, _≤_}
 use lib.ListN.{length, drop}
 use Rattle.format.specs.Read.{Read, sound, refused}
 use Rattle.format.specs.Contents.{Contents}
-use Rattle.phrases.specs.Phrases.{refusalLine}
+use Rattle.firstline.specs.FirstLine.{refusalLine}
 use Rattle.entries.specs.Entries.{IsListing}
 use Rattle.listing.specs.Alike.{Alike}
 

@@ -6,9 +6,9 @@ ghost use Rattle.format.specs.Reading.{reading};
 ghost use Rattle.pairs.specs.Pairs.{areaAfter};
 ghost use Rattle.listing.specs.Listed.{listingCheck};
 ghost use Rattle.page.specs.Page.{IsPage, Starts};
+use firstline::refusal_page;
 use listing::Listed;
 use listing::listing_of;
-use phrases::refusal_page;
 
 // What a program prints of a sheet, at the start of the text: the listing, or the line of the refusal.
 pub fn page(sheet: &[u8], marks: &mut [u8], queue: &mut [u16], text: &mut [u8]) -> usize

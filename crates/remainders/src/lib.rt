@@ -6,7 +6,7 @@ ghost use lib.IntN.{natAbs};
 ghost use lib.ListN.{length, getD};
 ghost use Rattle.remainders.specs.Sums.{sizes};
 ghost use Rattle.remainders.specs.Steps.{Blank, Closed, Ready, Swept, Tabled};
-use terms::Constant;
+use amounts::Constant;
 use terms::size;
 use terms::wide16;
 

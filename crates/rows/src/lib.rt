@@ -7,8 +7,8 @@ ghost use lib.ListN.{length};
 ghost use Rattle.signed.specs.Twos.{twos8};
 ghost use Rattle.nets.specs.HalfSpaces.{sixteen};
 ghost use Rattle.format.specs.Reading.{bytes, word, words, claimIn};
-use terms::Coefficient;
-use terms::Constant;
+use amounts::Coefficient;
+use amounts::Constant;
 use terms::Place;
 
 pub fn weights_from(s: &[u8], at: usize, n: usize) -> [u8; Place::MOST]

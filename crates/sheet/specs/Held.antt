@@ -5,8 +5,8 @@ use lib.ListN.{length}
 use Rattle.terms.specs.Limits.{among}
 use Rattle.refusals.specs.Refusals.{notATransition}
 use Rattle.terms.specs.declared.Transition.{Transition}
-use Rattle.terms.specs.declared.Kind.{Kind}
-use Rattle.terms.specs.declared.Kind.the-variants.{Exact, AtOrAbove}
+use Rattle.amounts.specs.declared.Kind.{Kind}
+use Rattle.amounts.specs.declared.Kind.the-variants.{Exact, AtOrAbove}
 use Rattle.nets.specs.Nets.{transition}
 use Rattle.nets.specs.HalfSpaces.{sixteen}
 use Rattle.nets.specs.Verdicts as verdicts

@@ -2,6 +2,7 @@
 ghost use mathlib.Core.Path.{_≡_};
 ghost use Rattle.format.specs.Reading.{reading};
 ghost use Rattle.sheet.specs.Held.{weightsOf, startOf, targetOf, noWeights};
+use amounts::Kind;
 use layout::behind_transitions;
 use layout::target_from;
 use reader::Reading;
@@ -10,7 +11,6 @@ use refusals::Check;
 use refusals::Refusal;
 use rows::tokens_from;
 use rows::weights_from;
-use terms::Kind;
 use terms::Place;
 use terms::Transition;
 use terms::among;

@@ -4,8 +4,8 @@ ghost use Rattle.remainders.specs.Sums.{sizes, Within};
 ghost use Rattle.tables.specs.Smallest.{Smaller, NotAll0, Smallest};
 ghost use Rattle.tables.specs.Told.{Says, IsSort};
 use crate::Sort;
+use amounts::Coefficient;
 use remainders::size_of;
-use terms::Coefficient;
 
 // Above every size of a coefficient.
 const ABOVE: usize = Coefficient::MOST as usize + 1;

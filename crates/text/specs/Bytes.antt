@@ -13,6 +13,10 @@ abbrev pub chars : string.String → List ℕ
 chars string.[] = []
 chars (string._∷_ c s) = code c ∷ chars s
 
+-- each line ends with one newline byte
+abbrev pub newline : List ℕ
+newline = 10 ∷ []
+
 abbrev pub digit : ℕ → ℕ
 digit d = 48 + d
 

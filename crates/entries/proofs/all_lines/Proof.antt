@@ -10,9 +10,9 @@ use Rattle.format.specs.Reading.{reading}
 use Rattle.reader.specs.declared.Counts.{Counts}
 use Rattle.known.specs.Known.{Known}
 use Rattle.known.proofs.Known.{same-contents, limits}
-use Rattle.text.specs.Bytes.{Wrote, chars, decimal}
+use Rattle.text.specs.Bytes.{Wrote, chars, decimal, newline}
 use Rattle.text.proofs.Writing.{wrote-then, wrote-nothing}
-use Rattle.phrases.specs.Phrases.{newline, countsLine}
+use Rattle.firstline.specs.FirstLine.{countsLine}
 use Rattle.entries.specs.Entries.{IsLine, AreLines, IsListing}
 use Rattle.phrases.proofs.Texts.{two-digits}
 use Rattle.entries.proofs.Lined.{lines-next, lines-none, both-ways}

@@ -7,9 +7,9 @@ use lib.ListN.{take}
 use Rattle.format.specs.Contents.{Contents, halfSpace, claim}
 use Rattle.format.proofs.ClaimRecord.{sheet-of}
 use Rattle.known.proofs.Known.{same-contents, limits}
-use Rattle.text.specs.Bytes.{Wrote, chars, decimal}
+use Rattle.text.specs.Bytes.{Wrote, chars, decimal, newline}
 use Rattle.judged.specs.declared.Judged.{Judged}
-use Rattle.phrases.specs.Phrases.{newline, twinText}
+use Rattle.phrases.specs.Phrases.{twinText}
 use Rattle.lines.specs.Lines.{answerText, claimLine, Brief}
 use Rattle.entries.specs.Entries.{IsLine}
 use Rattle.entries.proofs.Lined.{twin-small, brief, same-text}

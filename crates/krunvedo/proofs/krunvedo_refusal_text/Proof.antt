@@ -9,7 +9,7 @@ use Rattle.terms.specs.Limits.{textSize}
 use Rattle.refusals.specs.Refusals.{refusedAt, smallText}
 use Rattle.refusals.specs.declared.Refusal.{Refusal}
 use Rattle.format.specs.Read.{choose}
-use Rattle.phrases.specs.Phrases.{refusedLine}
+use Rattle.firstline.specs.FirstLine.{refusedLine}
 use Rattle.listing.specs.Listed.{RefusalWritten, IsRefusalText}
 use Rattle.listing.specs.declared.Listed.{Listed}
 use Rattle.listing.specs.declared.Listed.the-variants as listed

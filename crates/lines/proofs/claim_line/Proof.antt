@@ -2,9 +2,9 @@
 use mathlib.Core.List.{_++_}
 use native.Mathlib.Omega.{arith}
 use lib.ListN.{take}
-use Rattle.text.specs.Bytes.{chars, decimal}
+use Rattle.text.specs.Bytes.{chars, decimal, newline}
 use Rattle.text.proofs.Writing.{wrote-then}
-use Rattle.phrases.specs.Phrases.{newline, twinText}
+use Rattle.phrases.specs.Phrases.{twinText}
 use Rattle.lines.specs.Lines.{answerText}
 use Rattle.phrases.proofs.Texts.{two-digits}
 use borrow.Author.Needs.{needs}

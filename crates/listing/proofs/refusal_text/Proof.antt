@@ -3,7 +3,7 @@ use mathlib.Core.Path.{refl, ap}
 use lib.ListN.{length}
 use borrow.Author.Tests.{lt-leb, le-leb}
 use Rattle.text.proofs.Writing.{length-written, whole}
-use Rattle.phrases.specs.Phrases.{refusalLine}
+use Rattle.firstline.specs.FirstLine.{refusalLine}
 use Rattle.listing.specs.declared.Listed.the-variants as listed
 use borrow.Author.Needs.{needs}
 use Rattle.listing.proofs.refusal_text.Statement.{statement}

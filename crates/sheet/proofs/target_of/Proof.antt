@@ -8,9 +8,9 @@ use lib.Dec.{eqb}
 use Rattle.format.specs.Reading.{byte, kindOf, reading}
 use Rattle.format.specs.Read.{choose}
 use Rattle.format.proofs.Places.{held}
-use Rattle.terms.specs.Kinds.{kindOfByte}
-use Rattle.terms.specs.declared.Kind.{Kind}
-use Rattle.terms.specs.declared.Kind.the-variants.{Exact, AtOrAbove}
+use Rattle.amounts.specs.Kinds.{kindOfByte}
+use Rattle.amounts.specs.declared.Kind.{Kind}
+use Rattle.amounts.specs.declared.Kind.the-variants.{Exact, AtOrAbove}
 use Rattle.nets.specs.HalfSpaces.{sixteen}
 use Rattle.nets.specs.Verdicts as verdicts
 use Rattle.reader.specs.Answers.{checkOf}

@@ -1,7 +1,7 @@
 -- `Kind::of_byte` meets its contract: the test is the definition's.
 use borrow.Author.Tests.{eq-eqb, ne-eqb}
-use Rattle.terms.proofs.Kind.of_byte.Statement.{statement}
-use Rattle.terms.proofs.Kind.of_byte.Tie as tie
+use Rattle.amounts.proofs.Kind.of_byte.Statement.{statement}
+use Rattle.amounts.proofs.Kind.of_byte.Tie as tie
 
 returns : tie.Need-returns
 returns c = rw (eq-eqb (c .before .args .b) 0 (c .if1 .taken))

@@ -1,14 +1,13 @@
--- `phrases::counts_line` meets its contract: the pieces stand one behind the other.
+-- `firstline::counts_line` meets its contract: the pieces stand one behind the other.
 use mathlib.Core.List.{_++_}
 use Prim.Native.Nat.{_+_, _≤_}
 use native.Mathlib.Omega.{arith}
 use lib.ListN.{length, length-append}
-use Rattle.text.specs.Bytes.{chars, decimal}
+use Rattle.text.specs.Bytes.{chars, decimal, newline}
 use Rattle.text.proofs.Writing.{wrote-then}
-use Rattle.phrases.specs.Phrases.{newline}
 use borrow.Author.Needs.{needs}
-use Rattle.phrases.proofs.counts_line.Statement.{statement}
-use Rattle.phrases.proofs.counts_line.Tie as tie
+use Rattle.firstline.proofs.counts_line.Statement.{statement}
+use Rattle.firstline.proofs.counts_line.Tie as tie
 
 room : (c : tie.Start) → c .args .at + 29 + length (decimal (c .args .counts .places)) + length (decimal (c .args .counts .transitions)) + length (decimal (c .args .counts .claims)) ≤ length (c .args .text .now)
 room c =

@@ -2,8 +2,8 @@
 use mathlib.Core.Bool.{cond}
 use Prim.Native.Nat.{ℕ}
 use lib.Dec.{eqb}
-use Rattle.terms.specs.declared.Kind.{Kind}
-use Rattle.terms.specs.declared.Kind.the-variants.{Exact, AtOrAbove}
+use Rattle.amounts.specs.declared.Kind.{Kind}
+use Rattle.amounts.specs.declared.Kind.the-variants.{Exact, AtOrAbove}
 
 -- kind 0 is one exact marking; kind 1 is every marking at or above it
 abbrev pub kindOfByte : ℕ → Kind

@@ -5,8 +5,8 @@ use native.Mathlib.Omega.{arith}
 use mir.Syntax.{w16}
 use mir.Facts.{toZ-ofZ, toZ-pos}
 use Rattle.signed.specs.Linear.{linear}
-use Rattle.terms.proofs.Coefficient.of_byte.Statement.{statement}
-use Rattle.terms.proofs.Coefficient.of_byte.Tie as tie
+use Rattle.amounts.proofs.Coefficient.of_byte.Statement.{statement}
+use Rattle.amounts.proofs.Coefficient.of_byte.Tie as tie
 
 cast-k : tie.Need-cast-k
 cast-k c = search needs

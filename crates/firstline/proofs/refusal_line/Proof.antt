@@ -1,15 +1,14 @@
--- `phrases::refusal_line` meets its contract: the pieces stand one behind the other. A byte has three digits, a detail twenty.
+-- `firstline::refusal_line` meets its contract: the pieces stand one behind the other. A byte has three digits, a detail twenty.
 use mathlib.Core.List.{_++_}
 use Prim.Native.Nat.{_≤_}
 use native.Mathlib.Omega.{arith}
 use lib.ListN.{length}
-use Rattle.text.specs.Bytes.{chars, decimal}
+use Rattle.text.specs.Bytes.{chars, decimal, newline}
 use Rattle.text.proofs.Writing.{wrote-then}
 use Rattle.text.proofs.Decimal.{decimal-short}
-use Rattle.phrases.specs.Phrases.{newline}
 use borrow.Author.Needs.{needs}
-use Rattle.phrases.proofs.refusal_line.Statement.{statement}
-use Rattle.phrases.proofs.refusal_line.Tie as tie
+use Rattle.firstline.proofs.refusal_line.Statement.{statement}
+use Rattle.firstline.proofs.refusal_line.Tie as tie
 
 three : (c : tie.Start) → length (decimal (c .args .number)) ≤ 3
 three c = decimal-short 2 (c .args .number) (omega (arith, c .fits .number))

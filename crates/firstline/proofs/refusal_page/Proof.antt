@@ -2,10 +2,10 @@
 use mathlib.Core.Path.{subst}
 use Prim.Native.Nat.{ℕ}
 use Rattle.text.specs.Bytes.{Wrote}
-use Rattle.phrases.specs.Phrases.{refusedLine}
+use Rattle.firstline.specs.FirstLine.{refusedLine}
 use borrow.Author.Needs.{needs}
-use Rattle.phrases.proofs.refusal_page.Statement.{statement}
-use Rattle.phrases.proofs.refusal_page.Tie as tie
+use Rattle.firstline.proofs.refusal_page.Statement.{statement}
+use Rattle.firstline.proofs.refusal_page.Tie as tie
 
 value-requires : tie.Need-value-requires
 value-requires c κs = search needs

@@ -5,8 +5,8 @@ use native.Mathlib.Omega.{arith}
 use mir.Syntax.{w16, w32}
 use mir.Facts.{toZ-ofZ, toZ-pos}
 use Rattle.signed.specs.Linear.{linear}
-use Rattle.terms.proofs.Constant.of_bytes.Statement.{statement}
-use Rattle.terms.proofs.Constant.of_bytes.Tie as tie
+use Rattle.amounts.proofs.Constant.of_bytes.Statement.{statement}
+use Rattle.amounts.proofs.Constant.of_bytes.Tie as tie
 
 mul-v : tie.Need-mul-v
 mul-v c = search needs

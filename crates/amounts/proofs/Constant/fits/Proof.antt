@@ -3,8 +3,8 @@ use borrow.Author.Needs.{needs}
 use mir.Syntax.{w16}
 use mir.Val.{SFits}
 use mir.Facts.{toZ-ofZ}
-use Rattle.terms.proofs.Constant.fits.Statement.{statement}
-use Rattle.terms.proofs.Constant.fits.Tie as tie
+use Rattle.amounts.proofs.Constant.fits.Statement.{statement}
+use Rattle.amounts.proofs.Constant.fits.Tie as tie
 
 returns : tie.Need-returns
 returns c =
