@@ -1,4 +1,4 @@
-// What both plain programs share: a sheet that is checked once (document 01).
+// What both plain programs share: a sheet that is checked once (document 01, and 02 for refusal 18).
 // It stands in a header so that the compiler sees a whole program at once, as it does for Rattle.
 #ifndef PLAIN_SHEET_H
 #define PLAIN_SHEET_H
@@ -100,14 +100,18 @@ static bool read_claim(struct reader *r, size_t n, size_t before)
     if (!whole(r, 4 + n))
         return false;
     size_t from = r->at + 2;
+    uint8_t bits = 0; // of all coefficients
     for (size_t at = from; at < from + n; at++) {
         int k = signed_byte(r->bytes[at]);
+        bits |= r->bytes[at];
         if (k < -MOST_COEFFICIENT || k > MOST_COEFFICIENT)
             return refuse(r, 6, at);
     }
     int c = signed_word(r->bytes + from + n);
     if (c < -MOST_CONSTANT || c > MOST_CONSTANT)
         return refuse(r, 7, from + n);
+    if (bits == 0)
+        return refuse(r, 18, r->at);
     r->at += 4 + n;
     return true;
 }

@@ -1,8 +1,8 @@
 /* krunvedo.h: the Krunvedo library for C and for languages that call C. Link libkrunvedo.a (`rt staticlib krunvedo` writes it to
  * target/staticlib/). It is for x86-64 Linux and needs of the C library only memcpy and memset.
  *
- * What each call answers is set out in document 01, and proved for every input: any bytes may stand in a sheet, and any number may
- * be asked for. All that a caller owes is valid memory, the same that a reference of Rust's is:
+ * What each call answers is set out in documents 01 and 02, and proved for every input: any bytes may stand in a sheet, and any
+ * number may be asked for. All that a caller owes is valid memory, the same that a reference of Rust's is:
  *
  *  - A slice's pointer is not null, even where its length is 0, is aligned for its entries, and has that many of them behind it.
  *  - What is lent to be written (`marks`, `queue`, `text`, `tokens`) overlaps nothing else that the same call is given, and nobody else
@@ -45,8 +45,8 @@ typedef struct {
   size_t length;
 } krunvedo_queue;
 
-/* Document 01, "Numbers that say no". Where nothing is refused both are 0. Where something is, all else in the answer is 0, but
- * for a list's position. */
+/* Document 01, "Numbers that say no"; and 18 for a sheet with a claim whose coefficients are all 0, with the first byte of that
+ * claim's record. Where nothing is refused both are 0. Where something is, all else in the answer is 0, but for a list's position. */
 typedef struct {
   uint8_t number;
   size_t detail;
@@ -91,7 +91,7 @@ typedef struct {
 
 krunvedo_aim krunvedo_target(krunvedo_bytes sheet);
 
-/* The half space of claim i, and its reduced form. */
+/* The half space of claim i, and its reduced form. Where neither is refused, some coefficient is other than 0. */
 typedef struct {
   krunvedo_refused refusal;
   int8_t coefficients[KRUNVEDO_PLACES];

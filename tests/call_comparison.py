@@ -24,17 +24,20 @@ from second.calls import VERDICTS, every_line
 from second.listing import Line, right_text
 from second.sheet import Claim, Refusal, read
 from second.twins import first_twins
-from tables import check_counts
+from tables import check_counts, refused_sheet
 
 # Of each column how many there must be. "divided" is a claim that its reduced form divides by more than 1, "below zero" one of
-# those with both a coefficient and the constant below zero, and "list" a fine list that isn't empty.
+# those with both a coefficient and the constant below zero, "a zero" one with a coefficient that is zero, and "list" a fine list
+# that isn't empty.
 LEAST = {
     "sheets": 4_000,
     "calls": 300_000,
-    "refused sheet": 500,
+    "refused sheet": 800,
+    "zero claim": 300,
     "divided": 4_000,
     "below zero": 500,
-    "all zero": 500,
+    "a zero": 3_000,
+    "constant 0": 500,
     "twin": 4_000,
     "start-outside": 2_000,
     "target-inside": 2_000,
@@ -88,7 +91,7 @@ def columns_of_lines(lines: list[Line]) -> list[str]:
 def columns_of_claims(data: bytes) -> list[str]:
     sheet = read(data)
     if isinstance(sheet, Refusal):
-        return ["refused sheet"]
+        return refused_sheet(sheet.number)
     twins = ["twin" for twin in first_twins(sheet.claims) if twin]
     return twins + [column for claim in sheet.claims for column in columns_of_claim(claim)]
 
@@ -97,7 +100,7 @@ def columns_of_claim(claim: Claim) -> list[str]:
     coefficients, constant = claim
     divisor = gcd(*coefficients, constant)
     below = divisor > 1 and min(coefficients) < 0 and constant < 0
-    holding = {"all zero": divisor == 0, "divided": divisor > 1, "below zero": below}
+    holding = {"divided": divisor > 1, "below zero": below, "a zero": 0 in coefficients, "constant 0": constant == 0}
     return [column for column, holds in holding.items() if holds]
 
 

@@ -20,14 +20,15 @@ from make_walks import Walk
 from second.calls import list_line
 from second.limits import MOST_FIRINGS
 from second.listing import Line
-from second.sheet import read
+from second.sheet import REFUSALS, read
 from second.walk import fired
-from tables import check_counts, column_total
+from tables import check_counts, column_total, refused_sheet
 
 # Of each column how many there must be. "longest" is a fine list of 64, "too long" one of 65, "empty" a fine one.
 LEAST = {
     "lists": 28_000,
     "refused sheet": 1_000,
+    "zero claim": 50,
     "fine": 4_000,
     "empty": 300,
     "longest": 500,
@@ -64,8 +65,8 @@ def request(made: Walk) -> Request:
 def columns_of(line: Line) -> list[str]:
     """What a list's answer adds one to."""
     length, number, position = map(int, ANSWER.match(line.opening).groups())
-    if 0 < number < 12:
-        return ["lists", "refused sheet"]
+    if number in REFUSALS:
+        return ["lists", *refused_sheet(number)]
     if number:
         too_long = ["too long"] if length == MOST_FIRINGS + 1 else []
         return ["lists", f"refused {number}", f"position {position}", *too_long]

@@ -19,7 +19,7 @@ from second.listing import Line
 from second.sheet import Sheet, read
 from second.trying import most_tried
 from second.verdicts import BY_RESIDUES, BY_TRYING, Verdict, verdict
-from tables import Table, check_counts, shown
+from tables import Table, check_counts, refused_sheet, shown
 
 MOST_TRIED = 600  # markings for one question; where more are needed the residues decide
 
@@ -28,7 +28,8 @@ VERDICTS = ["start-outside", "target-inside", "broken", "proof"]
 # Of each column how many there must be.
 LEAST = {
     "sheets": 30_000,
-    "refused": 1_500,
+    "refused sheet": 2_500,
+    "zero claim": 1_000,
     "start-outside": 20_000,
     "target-inside": 20_000,
     "broken": 20_000,
@@ -64,7 +65,7 @@ def claims_of(lines: list[Line]) -> list[Line]:
 def columns_of(lines: list[Line]) -> list[str]:
     """What a listing adds one to, a column as often as it has that."""
     claims = claims_of(lines)
-    verdicts = [verdict_in(line).word for line in claims] or ["refused"]
+    verdicts = [verdict_in(line).word for line in claims] or refused_sheet(int(lines[0].opening.split()[2]))
     return ["sheets", *verdicts, *("twin" for line in claims if line.closing)]
 
 

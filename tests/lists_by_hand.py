@@ -1,7 +1,7 @@
 """Lists of transitions fired in one call, with what 02 says of each, written by hand."""
 
 from make_walks import Walk
-from named_cases import FIRST, HEAD
+from named_cases import FIRST, HEAD, ZERO_CLAIM
 from walks_by_hand import FULL, MORE, filled
 
 FINE = "refusal 0 at 0, position 0"
@@ -29,6 +29,8 @@ LISTS = [
     by_hand("65 steps", FULL, "65470", 65 * [2], "refusal 17 at 65, position 0", "65470"),
     by_hand("65 steps that there aren't", FULL, "7", 65 * [0], "refusal 17 at 65, position 0", "7"),
     by_hand("255 steps", FULL, "7", 255 * [1], "refusal 17 at 255, position 0", "7"),
+    by_hand("zero claim", ZERO_CLAIM, "2", [1], "refusal 18 at 29, position 0", "2"),
+    by_hand("zero claim, 65 steps", ZERO_CLAIM, "2", 65 * [1], "refusal 18 at 29, position 0", "2"),
     by_hand("refused sheet", HEAD, "2", [1], "refusal 9 at 23, position 0", "2"),
     by_hand("refused sheet, an empty list", HEAD, "2", [], "refusal 9 at 23, position 0", "2"),
     by_hand("refused sheet, 65 steps", HEAD, "2", 65 * [1], "refusal 9 at 23, position 0", "2"),

@@ -5,7 +5,6 @@ from random import Random
 
 from make_listings import (
     Made,
-    all_zero,
     any_signs,
     around,
     at_the_edge,
@@ -16,9 +15,10 @@ from make_listings import (
     sheet_for,
     small,
     twins,
+    zero_claims,
 )
 from make_pairs import all_below_zero, between_multiples, mixed_signs, some_transition, with_zeros
-from make_parts import near_ends
+from make_parts import near_ends, not_all_zero
 from make_sheets import damaged_sheets, random_bytes, random_sheet
 from second import limits
 from second.sheet import Claim, Sheet, write
@@ -47,7 +47,7 @@ def common_divisors(chance: Random) -> Sheet:
 def small_root(chance: Random, n: int) -> Claim:
     most = chance.choice([1, 2, 3, 7])
     coefficients = tuple(chance.choice([0, 1, 1]) * chance.randint(-most, most) for _ in range(n))
-    return Claim(coefficients, chance.choice([0, 1, -1, chance.randint(-50, 50)]))
+    return Claim(not_all_zero(chance, coefficients), chance.choice([0, 1, -1, chance.randint(-50, 50)]))
 
 
 def multiple(chance: Random, root: Claim) -> Claim:
@@ -55,7 +55,7 @@ def multiple(chance: Random, root: Claim) -> Claim:
     coefficients, constant = root
     fits = [limits.MOST_COEFFICIENT // size for size in map(abs, coefficients) if size]
     fits += [limits.MOST_CONSTANT // abs(constant)] if constant else []
-    factor = near_ends(chance, 1, min(fits, default=1))
+    factor = near_ends(chance, 1, min(fits))
     change = chance.choice([-1, 1]) if chance.random() < 1 / 6 else 0
     constant = max(-limits.MOST_CONSTANT, min(limits.MOST_CONSTANT, factor * constant + change))
     return Claim(tuple(factor * coefficient for coefficient in coefficients), constant)
@@ -66,7 +66,7 @@ MAKERS: dict[str, tuple[Callable[[Random], Sheet], int]] = {
     "small": (small, 400),
     "common divisors": (common_divisors, 900),
     "twins": (twins, 500),
-    "all zero": (all_zero, 300),
+    "zero claims": (zero_claims, 300),
     "all below zero": (around(all_below_zero), 250),
     "mixed signs": (around(mixed_signs), 250),
     "with zeros": (around(with_zeros), 150),

@@ -20,7 +20,7 @@ from make_pairs import (
     some_transition,
     with_zeros,
 )
-from make_parts import near_ends, random_claim, several
+from make_parts import near_ends, not_all_zero, random_claim, several
 from make_sheets import damaged_sheets, random_bytes, random_sheet
 from second import limits
 from second.pairs import Pair, Vector, value
@@ -114,7 +114,7 @@ def nudged(chance: Random, claim: Claim) -> Claim:
     place, change = chance.randrange(len(claim.coefficients)), chance.choice([-1, 1])
     coefficients = list(claim.coefficients)
     coefficients[place] = max(-limits.MOST_COEFFICIENT, min(limits.MOST_COEFFICIENT, coefficients[place] + change))
-    return Claim(tuple(coefficients), claim.constant)
+    return Claim(not_all_zero(chance, tuple(coefficients)), claim.constant)
 
 
 # Sheets of each kind.
@@ -150,7 +150,8 @@ def small(chance: Random) -> Sheet:
 
 
 def some_small_claim(chance: Random, n: int) -> Claim:
-    return Claim(tuple(chance.randint(-3, 3) for _ in range(n)), chance.randint(-7, 7))
+    coefficients = not_all_zero(chance, tuple(chance.randint(-3, 3) for _ in range(n)))
+    return Claim(coefficients, chance.randint(-7, 7))
 
 
 def some_small_transition(chance: Random, n: int) -> Transition:
@@ -158,12 +159,14 @@ def some_small_transition(chance: Random, n: int) -> Transition:
     return Transition(taken, put)
 
 
-def all_zero(chance: Random) -> Sheet:
-    """Coefficients that are all zero, with constants of which many reduce to the same."""
-    n = chance.randint(1, 3)
-    constants = [-limits.MOST_CONSTANT, -2, -1, 0, 0, 1, 2, limits.MOST_CONSTANT]
-    claims = [Claim(n * (0,), chance.choice(constants)) for _ in range(chance.randint(1, 5))]
-    return sheet_for(chance, claims[0], [some_transition(chance, n)], claims)
+def zero_claims(chance: Random) -> Sheet:
+    """Among claims that start and target fit, one or two with every coefficient zero: 02 refuses the sheet, whatever the constant."""
+    main, transition = any_signs(chance)
+    claims = relatives(chance, main, chance.choice([1, 4, 8, limits.MOST_CLAIMS - 2]))
+    for _ in range(chance.choice([1, 1, 2])):
+        constant = chance.choice([-limits.MOST_CONSTANT, -1, 0, 0, 1, limits.MOST_CONSTANT])
+        claims.insert(chance.randint(0, len(claims)), Claim(len(main.coefficients) * (0,), constant))
+    return sheet_for(chance, main, [transition], claims)
 
 
 def many_proofs(chance: Random) -> Sheet:
@@ -181,10 +184,10 @@ def late_break(chance: Random) -> Sheet:
 
 
 def twins(chance: Random) -> Sheet:
-    """Claims from a few roots: scaled, negated, with another constant, all zero."""
+    """Claims from a few roots: scaled, negated, with another constant, with zeros but for one coefficient."""
     main, transition = any_signs(chance)
-    n = len(main.coefficients)
-    roots = [main, Claim(n * (0,), chance.choice([0, 0, main.constant])), relative(chance, main)]
+    single = not_all_zero(chance, len(main.coefficients) * (0,))
+    roots = [main, Claim(single, chance.choice([0, 0, main.constant])), relative(chance, main)]
     claims = [twin_of(chance, chance.choice(roots)) for _ in range(chance.randint(3, 9))]
     return sheet_for(chance, main, [transition], claims)
 
@@ -206,7 +209,7 @@ def at_the_edge(chance: Random) -> Sheet:
     """Many tokens whose values nearly cancel out, and constants right at the value of the start or the target."""
     n = chance.randint(1, 8)
     size = chance.randint(1, limits.MOST_COEFFICIENT)
-    coefficients = n * (size, -size) if chance.random() < 0.7 else several(chance, 2 * n, -1, 1)
+    coefficients = n * (size, -size) if chance.random() < 0.7 else not_all_zero(chance, several(chance, 2 * n, -1, 1))
     start, target = (tuple(nearly_even(chance) for _ in range(2 * n)) for _ in range(2))
     ends = [value(coefficients, start), value(coefficients, target)]
     constants = [in_range(chance.choice(ends) + chance.randint(-1, 1)) for _ in range(chance.randint(1, 4))]
@@ -224,7 +227,7 @@ def largest(chance: Random) -> Sheet:
     n = limits.MOST_PLACES
     signs = chance.choice([[1], [-1], [-1, 1], [0, 1], [0, -1]])
     coefficients = tuple(chance.choice(signs) * chance.randint(1, 30) for _ in range(n))
-    main = Claim(coefficients, chance.choice([1, -1]) * chance.randint(0, 300))
+    main = Claim(not_all_zero(chance, coefficients), chance.choice([1, -1]) * chance.randint(0, 300))
     transitions = rising_ones(chance, main, limits.MOST_TRANSITIONS)
     for place in chance.sample(range(limits.MOST_TRANSITIONS), chance.randrange(3)):
         transitions[place] = some_transition(chance, n)
@@ -239,7 +242,7 @@ MAKERS: dict[str, tuple[Callable[[Random], Sheet], int]] = {
     "all below zero": (around(all_below_zero), 2_500),
     "mixed signs": (around(mixed_signs), 2_500),
     "with zeros": (around(with_zeros), 1_500),
-    "all zero": (all_zero, 1_000),
+    "zero claims": (zero_claims, 1_000),
     "between multiples": (around(between_multiples), 2_500),
     "far window": (around(far_window), 400),
     "many proofs": (many_proofs, 2_500),

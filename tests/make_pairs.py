@@ -4,7 +4,7 @@ from collections.abc import Callable, Sequence
 from itertools import product
 from random import Random
 
-from make_parts import near_ends, random_claim, random_transition, several
+from make_parts import near_ends, not_all_zero, random_claim, random_transition, several
 from second import limits
 from second.pairs import Pair, value
 from second.sheet import Claim, Sheet, Transition
@@ -105,10 +105,10 @@ def pair_with(chance: Random, coefficients: tuple[int, ...]) -> Pair:
 
 
 def every_small_pair() -> list[Pair]:
-    few = range(4)
+    few, coefficients = range(4), [-4, -3, -2, -1, 1, 2, 3, 4]
     return [
         Pair(Claim((coefficient,), constant), Transition((taken,), (put,)))
-        for coefficient, constant, taken, put in product(range(-3, 4), range(-7, 8), few, few)
+        for coefficient, constant, taken, put in product(coefficients, range(-7, 8), few, few)
     ]
 
 
@@ -131,7 +131,7 @@ def mixed_signs(chance: Random) -> Pair:
 def with_zeros(chance: Random) -> Pair:
     signs = chance.choice([[0, 1], [0, -1], [-1, 0, 1]])
     sizes = above_zero(chance, max(2, some_places(chance)))
-    return pair_with(chance, tuple(chance.choice(signs) * size for size in sizes))
+    return pair_with(chance, not_all_zero(chance, tuple(chance.choice(signs) * size for size in sizes)))
 
 
 def oriented(chance: Random) -> Pair:

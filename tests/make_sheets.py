@@ -125,6 +125,18 @@ def bad_constant(chance: Random, sheet: Sheet) -> bytes:
     return write(replace(sheet, claims=exchanged(chance, sheet.claims, bad)))
 
 
+def zero_claim(chance: Random, sheet: Sheet) -> bytes:
+    """Every coefficient of a claim is zero. One in six has a bad constant, which comes first; one in three any bytes behind it."""
+    constant = near_ends(chance, -limits.MOST_CONSTANT, limits.MOST_CONSTANT)
+    wrong = beyond(chance, limits.MOST_CONSTANT, 32_767)
+    zero = Claim(sheet.n * (0,), wrong if chance.random() < 1 / 6 else constant)
+    index = chance.randrange(len(sheet.claims))
+    up_to_it = replace(sheet, claims=(*sheet.claims[:index], zero))
+    if chance.random() < 1 / 3:
+        return write(up_to_it) + tail(chance, chance.randint(0, 20))
+    return write(replace(sheet, claims=up_to_it.claims + sheet.claims[index + 1 :]))
+
+
 def too_many_claims(chance: Random, sheet: Sheet) -> bytes:
     """33 claims or a few more, the last perhaps cut short."""
     count = limits.MOST_CLAIMS + chance.choice([1, 1, 2, 5])
@@ -208,6 +220,7 @@ DAMAGES: list[Callable[[Random, Sheet], bytes]] = [
     bad_kind,
     bad_coefficient,
     bad_constant,
+    zero_claim,
     too_many_claims,
     no_claims,
     records_moved,

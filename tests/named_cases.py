@@ -1,6 +1,6 @@
-"""Sheets with the first line that document 01 gives each, both written by hand.
+"""Sheets with the first line that document 01, or of refusal 18 document 02, gives each, both written by hand.
 
-Nothing here uses the second program, so these lines hold it and judge alike to 01.
+Nothing here uses the second program, so these lines hold it and judge alike to 01 and 02.
 Byte places stand in the lines as 01's record table gives them.
 """
 
@@ -39,6 +39,10 @@ FIRST = HEAD + hexed(
 FIRST_STARTS = [0, 4, 10, 16, 23, 29, 35, 41, 47]
 FIRST_LINE = "places 2 transitions 1 claims 5"
 
+# The same with every coefficient of claim 2 zero: 02 refuses it with 18 at 29.
+ZERO_CLAIM = patched(FIRST, 31, "00")
+ZERO_HS = hexed("48 53 00 00 02 00")
+
 # One place, no transition, one claim: NP at 0, MK at 4, TG at 8, HS at 13; 18 bytes.
 SMALLEST = hexed("4E 50 01 00", "4D 4B 05 00", "54 47 01 06 00", "48 53 FF FB FF")
 SMALLEST_STARTS = [0, 4, 8, 13]
@@ -70,6 +74,9 @@ LARGEST = LARGEST_HEAD + 32 * LARGEST_HS
 LARGEST_STARTS = [0, *range(4, 2180, 34), 2180, 2214, *range(2249, 2889, 20)]
 LARGEST_LINE = "places 16 transitions 64 claims 32"
 
+# Sixteen places, no transition, and no claim yet: HS at 73.
+SIXTEEN_HEAD = hexed("4E 50 10 00 4D 4B", 32 * "00", "54 47 00", 32 * "00")
+
 MARKS = ["4E 50", "54 52", "4D 4B", "54 47", "48 53"]
 
 
@@ -87,6 +94,7 @@ def named_cases() -> list[Named]:
         "kind": kinds(),
         "coefficient": coefficients(),
         "constant": constants(),
+        "zero claim": zero_claims(),
         "count of claims": counts_of_claims(),
         "bytes after the last claim": bytes_after(),
         "longer than any sheet": too_long(),
@@ -102,15 +110,12 @@ def sound() -> Lines:
     yield SMALLEST, "places 1 transitions 0 claims 1"
     yield MIDDLE, "places 3 transitions 2 claims 2"
     yield LARGEST, "places 16 transitions 64 claims 32"
-    # All zeros wherever zero is in range.
-    yield hexed("4E 50 01 00 4D 4B 00 00 54 47 00 00 00 48 53 00 00 00"), "places 1 transitions 0 claims 1"
+    # All zeros wherever zero is in range, but for one coefficient.
+    yield hexed("4E 50 01 00 4D 4B 00 00 54 47 00 00 00 48 53 01 00 00"), "places 1 transitions 0 claims 1"
     # Sixteen places without a transition; one place with 64 of them.
+    yield SIXTEEN_HEAD + hexed("48 53", 15 * "00", "FF 00 00"), "places 16 transitions 0 claims 1"
     yield (
-        hexed("4E 50 10 00 4D 4B", 32 * "00", "54 47 00", 32 * "00", "48 53", 18 * "00"),
-        "places 16 transitions 0 claims 1",
-    )
-    yield (
-        hexed("4E 50 01 40", 64 * "54 52 00 09", "4D 4B 00 00 54 47 00 01 00 48 53 00 01 00"),
+        hexed("4E 50 01 40", 64 * "54 52 00 09", "4D 4B 00 00 54 47 00 01 00 48 53 01 01 00"),
         "places 1 transitions 64 claims 1",
     )
 
@@ -203,14 +208,15 @@ def kinds() -> Lines:
 def coefficients() -> Lines:
     first_places = [25, 26, 31, 32, 49, 50]
     largest_places = [2251, 2266, 2871, 2886]  # first and last of the first and last claim
-    for sheet, line, places in [
-        (FIRST, FIRST_LINE, first_places),
-        (SMALLEST, SMALLEST_LINE, [15]),
-        (LARGEST, LARGEST_LINE, largest_places),
+    for sheet, line, places, zeros in [
+        (FIRST, FIRST_LINE, first_places, {31: "refused 18 at 29"}),  # the other of claim 2 is zero
+        (SMALLEST, SMALLEST_LINE, [15], {15: "refused 18 at 13"}),
+        (LARGEST, LARGEST_LINE, largest_places, {}),
     ]:
         for at in places:
-            for inside in ["9C", "9D", "FF", "00", "01", "63", "64"]:  # -100 -99 -1 0 1 99 100
+            for inside in ["9C", "9D", "FF", "01", "63", "64"]:  # -100 -99 -1 1 99 100
                 yield patched(sheet, at, inside), line
+            yield patched(sheet, at, "00"), zeros.get(at, line)
             for outside in ["80", "81", "9A", "9B", "65", "66", "7F"]:  # -128 -127 -102 -101 101 102 127
                 yield patched(sheet, at, outside), f"refused 6 at {at}"
     yield patched(FIRST, 25, "65 9B"), "refused 6 at 25"
@@ -237,6 +243,37 @@ def constants() -> Lines:
             yield patched(patched(FIRST, 18, kind), 27, constant), "refused 7 at 27"
 
 
+def zero_claims() -> Lines:
+    """Every coefficient zero, with any constant in its range; and those with one that isn't."""
+    for constant in ["78 EC", "FF FF", "00 00", "01 00", "00 01", "88 13"]:  # -5000 -1 0 1 256 5000
+        yield patched(FIRST, 25, f"00 00 {constant}"), "refused 18 at 23"
+        yield patched(FIRST, 31, f"00 00 {constant}"), "refused 18 at 29"
+        yield patched(FIRST, 49, f"00 00 {constant}"), "refused 18 at 47"
+        yield patched(SMALLEST, 15, f"00 {constant}"), "refused 18 at 13"
+        yield SIXTEEN_HEAD + hexed("48 53", 16 * "00", constant), "refused 18 at 73"
+        yield patched(LARGEST, 2251, 16 * "00" + constant), "refused 18 at 2249"
+        yield patched(LARGEST, 2871, 16 * "00" + constant), "refused 18 at 2869"
+    # Each of 32 claims: with others behind it, as the last, and with zero claims behind it.
+    for before in range(32):
+        at = 23 + 6 * before
+        yield HEAD + before * HS + ZERO_HS + (31 - before) * HS, f"refused 18 at {at}"
+        yield HEAD + before * HS + ZERO_HS, f"refused 18 at {at}"
+        yield HEAD + before * HS + (32 - before) * ZERO_HS, f"refused 18 at {at}"
+    # One other than zero is enough, wherever it stands.
+    for place in range(16):
+        for one in ["9C", "FF", "01", "64"]:
+            claim = hexed("48 53", place * "00", one, (15 - place) * "00", "00 00")
+            yield SIXTEEN_HEAD + claim, "places 16 transitions 0 claims 1"
+            yield SIXTEEN_HEAD + 32 * claim, "places 16 transitions 0 claims 32"
+    for one in ["9C", "FF", "01", "64"]:
+        yield patched(SMALLEST, 15, f"{one} 00 00"), SMALLEST_LINE
+        yield patched(FIRST, 37, f"00 {one} 00 00"), FIRST_LINE
+        yield patched(FIRST, 37, f"{one} 00 00 00"), FIRST_LINE
+    # Zeros in TR, MK and TG make no zero claim.
+    yield patched(FIRST, 6, "00 00 00 00"), FIRST_LINE
+    yield patched(patched(FIRST, 12, "00 00 00 00"), 19, "00 00 00 00"), FIRST_LINE
+
+
 def counts_of_claims() -> Lines:
     for count in range(1, 33):
         yield HEAD + count * HS, f"places 2 transitions 1 claims {count}"
@@ -247,7 +284,7 @@ def counts_of_claims() -> Lines:
     yield full + 100 * HS, "refused 8 at 215"
     for tail in ["48 53", "48 53 01", "48 53 01 01", "48 53 01 01 02"]:
         yield full + hexed(tail), "refused 8 at 215"
-    for tail in ["48 53 65 01 02 00", "48 53 01 01 89 13"]:
+    for tail in ["48 53 65 01 02 00", "48 53 01 01 89 13", "48 53 00 00 02 00"]:
         yield full + hexed(tail), "refused 8 at 215"
     for tail in ["48", "53", "00", "FF"]:
         yield full + hexed(tail), "refused 1 at 215"
@@ -364,6 +401,24 @@ def orders_of_checks() -> Lines:
     yield hexed(NP, TR, MK, "54 47 02 00 00 01 00", "48 53 65 01 02 00"), "refused 5 at 18"
     yield HEAD + hexed("48 53 01 01 89 13", "48 53 65 01 02 00"), "refused 7 at 27"
     yield HEAD + 31 * HS + hexed("48 53 01 01 89 13") + HS, "refused 7 at 213"
+    # A zero claim comes after the length and all the fields of its record, and before all of the next.
+    for cut in ["48 53", "48 53 00", "48 53 00 00", "48 53 00 00 02"]:
+        yield HEAD + hexed(cut), "refused 1 at 23"
+    yield HEAD + hexed("48 53 00 65 00 00"), "refused 6 at 26"
+    yield HEAD + hexed("48 53 9B 00 00 00"), "refused 6 at 25"
+    for constant in ["77 EC", "89 13", "00 80"]:
+        yield HEAD + hexed("48 53 00 00", constant), "refused 7 at 27"
+        yield patched(SMALLEST, 15, f"00 {constant}"), "refused 7 at 16"
+        yield patched(LARGEST, 2_871, 16 * "00" + constant), "refused 7 at 2887"
+        yield HEAD + hexed("48 53 00 00", constant) + ZERO_HS, "refused 7 at 27"
+    for behind in ["00", "48", "4E 50", "48 54 01 01 02 00", "48 53", "48 53 01 01 02", "48 53 65 01 02 00", "48 53 00 00 89 13"]:
+        yield HEAD + ZERO_HS + hexed(behind), "refused 18 at 23"
+        yield ZERO_CLAIM + hexed(behind), "refused 18 at 29"
+        yield HEAD + 31 * HS + ZERO_HS + hexed(behind), "refused 18 at 209"
+    yield HEAD + 31 * HS + ZERO_HS + HS, "refused 18 at 209"
+    yield HEAD + 32 * HS + ZERO_HS, "refused 8 at 215"
+    yield HEAD + hexed("48 53 01 01 89 13") + ZERO_HS, "refused 7 at 27"
+    yield hexed(NP, TR, MK, "54 47 02 00 00 01 00") + ZERO_HS, "refused 5 at 18"
     # Kind comes before 9, and 9 asks for no byte at all after TG.
     yield hexed(NP, TR, MK, "54 47 02 00 00 01 00"), "refused 5 at 18"
     yield hexed(NP, TR, MK, TG), "refused 9 at 23"

@@ -7,7 +7,7 @@ from random import Random
 from checks import Checks
 from make_pairs import random_pairs, sheet_with
 from make_sheets import damaged_sheets
-from named_cases import FIRST, HEAD, LARGEST, MIDDLE, SMALLEST, patched
+from named_cases import FIRST, HEAD, LARGEST, MIDDLE, SMALLEST, ZERO_CLAIM, patched
 from pair_questions import AREA_SIZES, Question, padded, second_answer, words
 from second.pairs import Pair, is_shown
 from second.sheet import Claim, Sheet, Transition, write
@@ -85,6 +85,9 @@ ANSWERS = [
     (HEAD, 1, 1, ENOUGH, "refused 9 at 23"),
     (FIRST[:-1], 1, 1, ENOUGH, "refused 1 at 47"),
     (FIRST[:-1], 6, 2, FIRST_SHORT, "refused 1 at 47"),
+    (ZERO_CLAIM, 1, 1, ENOUGH, "refused 18 at 29"),
+    (ZERO_CLAIM, 2, 1, ENOUGH, "refused 18 at 29"),
+    (ZERO_CLAIM, 6, 2, EMPTY, "refused 18 at 29"),
     # No transition at all; the last ones there are, and one more.
     (SMALLEST, 1, 0, ENOUGH, "refused 12 at 0"),
     (SMALLEST, 1, 1, ENOUGH, "refused 12 at 1"),
@@ -105,6 +108,7 @@ BAD_SHEETS = [
     patched(FIRST, 18, "02"),
     patched(FIRST, 50, "65"),
     patched(FIRST, 51, "89 13"),
+    ZERO_CLAIM,
     LARGEST + b"HS",
     HEAD,
 ]

@@ -15,7 +15,7 @@ from checks import Checks, run_checks
 from comparison import differences, dotted_answers, output_for
 from pair_cases import make_questions
 from pair_questions import Answer, kinds_of, request, second_answer, second_faults, shown_marking, words
-from second.sheet import Refusal
+from second.sheet import REFUSALS, Refusal
 
 LEAST_QUESTIONS = 34_000
 LEAST_OF_EACH_REFUSAL = 40
@@ -78,7 +78,7 @@ def counted(answers: Counter[str]) -> str:
 
 def check_coverage(checks: Checks, answers: Counter[str], kinds: Counter[tuple[str, str]]) -> None:
     checks.at_least("questions about pairs", LEAST_QUESTIONS, answers.total())
-    for number in [*range(1, 10), 11, 12, 13]:
+    for number in [*REFUSALS, 11, 12, 13]:
         checks.at_least(f"pairs refused {number}", LEAST_OF_EACH_REFUSAL, answers[f"refused {number}"])
     for kind, least in LEAST_KEPT_AND_BROKEN.items():
         for word, count in zip(["kept", "broken"], least):

@@ -1,4 +1,4 @@
-"""Holds the programs and the library to document 01: to lines written by hand and to the second program.
+"""Holds the programs and the library to documents 01 and 02: to lines written by hand and to the second program.
 
     python3 tests/run_tests.py
 

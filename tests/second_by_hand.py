@@ -1,7 +1,7 @@
-"""Holds the second program to document 01: what sheets hold, written by hand."""
+"""Holds the second program to documents 01 and 02: what sheets hold, written by hand."""
 
 from checks import Checks
-from named_cases import FIRST, HEAD, LARGEST, MIDDLE
+from named_cases import FIRST, HEAD, LARGEST, MIDDLE, ZERO_CLAIM
 from second.calls import held_lines, record_places
 from second.sheet import Claim, Sheet, Transition, read, write
 
@@ -140,6 +140,23 @@ HELD_LINES = [
             "claim_check 0: refusal 9 at 23",
             "claim_check 1: refusal 9 at 23",
             "claim_record 1: refusal 9 at 23, from 0, length 0",
+        ],
+    ),
+    # Nor can a claim before the zero one, the zero one or a claim behind it be had.
+    (
+        ZERO_CLAIM,
+        [
+            "read 0: refusal 18 at 29, counts 0 0 0",
+            f"start 0: refusal 18 at 29, tokens{NONE}",
+            f"target 0: refusal 18 at 29, kind 0, tokens{NONE}",
+            f"weights 1: refusal 18 at 29, {NO_WEIGHTS}",
+            f"half_space 0: refusal 18 at 29, {NO_CLAIM}",
+            f"half_space 1: refusal 18 at 29, {NO_CLAIM}",
+            f"half_space 2: refusal 18 at 29, {NO_CLAIM}",
+            f"reduced 2: refusal 18 at 29, {NO_CLAIM}",
+            "claim_check 2: refusal 18 at 29",
+            "claim_record 3: refusal 18 at 29, from 0, length 0",
+            "twin 5: refusal 18 at 29, claim 0",
         ],
     ),
 ]

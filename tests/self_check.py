@@ -16,7 +16,7 @@ import walk_comparison
 from cases import Case
 from checks import Checks, Failure
 from comparison import Request, differences
-from named_cases import FIRST, HEAD, SMALLEST
+from named_cases import FIRST, HEAD, SMALLEST, ZERO_CLAIM
 from pair_cases import CASES as PAIRS
 from pair_cases import EMPTY, ENOUGH, sheet_of
 from pair_questions import Question, request, second_answer, second_faults
@@ -42,6 +42,7 @@ from wrong_outputs import (
 CASES = [
     Case("first sheet", "sound", FIRST, read(FIRST), shown=True),
     Case("sheet without a claim", "damaged", HEAD, read(HEAD), shown=True),
+    Case("sheet with a zero claim", "damaged", ZERO_CLAIM, read(ZERO_CLAIM), shown=True),
     Case("smallest sheet", "sound", SMALLEST, read(SMALLEST), shown=False),
 ]
 START = f"start 0: refusal 0 at 0, tokens 2 0{NONE}\n"
@@ -65,6 +66,11 @@ WRONG = [
     ("a detail", HEAD, "read 0: refusal 9 at 23", "read 0: refusal 9 at 24"),
     ("a refusal's number", HEAD, "read 0: refusal 9 at 23", "read 0: refusal 1 at 23"),
     ("a detail passed on", HEAD, "start 0: refusal 9 at 23", "start 0: refusal 9 at 0"),
+    ("18 at the first coefficient", ZERO_CLAIM, "read 0: refusal 18 at 29", "read 0: refusal 18 at 31"),
+    ("6 for 18", ZERO_CLAIM, "read 0: refusal 18 at 29", "read 0: refusal 6 at 29"),
+    ("a zero claim taken", ZERO_CLAIM, "read 0: refusal 18 at 29, counts 0 0 0", "read 0: refusal 0 at 0, counts 2 1 5"),
+    ("18 not passed on", ZERO_CLAIM, "half_space 2: refusal 18 at 29", "half_space 2: refusal 0 at 0"),
+    ("11 before 18", ZERO_CLAIM, "claim_check 6: refusal 18 at 29", "claim_check 6: refusal 11 at 6"),
     ("a missing answer", SMALLEST, LAST, ""),
     ("an answer too many", SMALLEST, LAST, 2 * LAST),
     ("a missing newline", SMALLEST, LAST, LAST[:-1]),
@@ -73,17 +79,19 @@ WRONG = [
 ]
 
 
-# Cases a and j of 01, and a question with a claim, a transition and areas that are all wrong.
+# Cases a and j of 01, a zero claim, and a question with a claim, a transition and areas that are all wrong.
 CASE_A, CASE_J = (write(sheet_of(pair)) for name, pair, _ in PAIRS if name in ["a", "j"])
 QUESTIONS = [
     Question("case a", CASE_A, 1, 1, ENOUGH),
     Question("case j", CASE_J, 1, 1, ENOUGH),
+    Question("zero claim", ZERO_CLAIM, 2, 1, ENOUGH),
     Question("refused", FIRST, 6, 2, EMPTY),
 ]
 ANSWERS = list(map(second_answer, QUESTIONS))
 CLEARED = "by transition 1, marks 20000 zero, queue 20000 zero\n.\n"
 KEPT = f"pair 1: refusal 0 at 0, answer 1, tokens 0 0{NONE}, {CLEARED}"
 BROKEN = f"pair 1: refusal 0 at 0, answer 2, tokens 2 1{NONE}, {CLEARED}"
+ZERO = f"pair 2: refusal 18 at 29, answer 0, tokens 0 0{NONE}, {CLEARED}".replace(" zero", " kept")
 REFUSED = f"pair 6: refusal 11 at 6, answer 0, tokens 0 0{NONE}, by transition 2, marks 0 kept, queue 0 kept\n.\n"
 
 WRONG_PAIRS = [
@@ -96,11 +104,14 @@ WRONG_PAIRS = [
     ("a token beyond place n", CASE_J, "tokens 2 1 0", "tokens 2 1 1"),
     ("a marking too short", CASE_J, "tokens 2 1 0", "tokens 2 1"),
     ("a marking with kept", CASE_A, "answer 1, tokens 0 0", "answer 1, tokens 2 2"),
-    ("a marking with a refusal", FIRST, "answer 0, tokens 0", "answer 0, tokens 1"),
+    ("a marking with a refusal", FIRST, "at 6, answer 0, tokens 0", "at 6, answer 0, tokens 1"),
     ("a dirty first area", CASE_A, KEPT, KEPT.replace("marks 20000 zero", "marks 20000 dirty")),
     ("a dirty second area", CASE_J, BROKEN, BROKEN.replace("queue 20000 zero", "queue 20000 dirty")),
     ("areas not cleared", CASE_A, KEPT, KEPT.replace("zero", "kept")),
     ("areas cleared in vain", FIRST, REFUSED, REFUSED.replace("kept", "zero")),
+    ("kept for a zero claim", ZERO_CLAIM, ZERO, KEPT.replace("pair 1", "pair 2")),
+    ("18 at another claim", ZERO_CLAIM, "refusal 18 at 29", "refusal 18 at 23"),
+    ("areas cleared for a zero claim", ZERO_CLAIM, ZERO, ZERO.replace("kept", "zero")),
     ("12 before 11", FIRST, "refusal 11 at 6", "refusal 12 at 2"),
     ("13 before 11", FIRST, "refusal 11 at 6", "refusal 13 at 0"),
     ("another pair's detail", FIRST, "refusal 11 at 6", "refusal 11 at 2"),
@@ -143,8 +154,8 @@ def right_output(requests: list[Request]) -> str:
 
 def check_pairs_can_fail() -> None:
     pairs = list(map(request, QUESTIONS, ANSWERS))
-    check_reported(pairs, KEPT + BROKEN + REFUSED, WRONG_PAIRS)
-    check_others_pass(pairs, KEPT + BROKEN + REFUSED, BROKEN, "2 1")
+    check_reported(pairs, KEPT + BROKEN + ZERO + REFUSED, WRONG_PAIRS)
+    check_others_pass(pairs, KEPT + BROKEN + ZERO + REFUSED, BROKEN, "2 1")
     for name, index, bad in WRONG_SECOND:
         demand(f"{name} is reported", second_faults(QUESTIONS[index], ANSWERS[index]._replace(bad=bad)))
 

@@ -17,7 +17,7 @@ from comparison import Request, compare
 from programs import run
 from second.calls import counted_lines, held_lines
 from second.listing import check_lines, lines
-from second.sheet import Sheet
+from second.sheet import REFUSALS, Sheet
 
 LEAST_SHEETS = 20_000
 LEAST_OF_EACH_REFUSAL = 100
@@ -66,7 +66,7 @@ def check_coverage(checks: Checks, cases: list[Case], judged: list[Case]) -> Non
     checks.at_least("sheets given to judge", LEAST_JUDGED, len(judged))
     shown = [case for case in cases if case.shown]
     counts, shown_counts = Counter(map(answer_name, cases)), Counter(map(answer_name, shown))
-    for name in [f"refusal {number}" for number in range(1, 10)]:
+    for name in [f"refusal {number}" for number in REFUSALS]:
         checks.at_least(name, LEAST_OF_EACH_REFUSAL, counts[name])
         checks.at_least(f"{name}, contents shown", LEAST_OF_EACH_REFUSAL_SHOWN, shown_counts[name])
     check_sizes_shown(checks, [case.answer for case in shown if isinstance(case.answer, Sheet)])

@@ -7,6 +7,11 @@ from checks import Checks
 Table = Counter[tuple[str, str]]
 
 
+def refused_sheet(number: int) -> list[str]:
+    """The columns of a sheet that is refused with this number; a zero claim has one of its own."""
+    return ["refused sheet", "zero claim"] if number == 18 else ["refused sheet"]
+
+
 def check_counts(checks: Checks, title: str, table: Table, least: dict[str, int]) -> None:
     """Shows the counts, and demands of each column as many as are given."""
     print(shown(title, table, list(least)))

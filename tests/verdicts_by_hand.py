@@ -1,8 +1,8 @@
-"""Holds the second program and ours to document 01: verdicts, twins and whole listings, written by hand."""
+"""Holds the second program and ours to documents 01 and 02: verdicts, twins and whole listings, written by hand."""
 
 from checks import Checks
 from comparison import Request, dotted_answers, output_for
-from named_cases import FIRST, HEAD, LARGEST, MIDDLE, SMALLEST
+from named_cases import FIRST, HEAD, LARGEST, MIDDLE, SMALLEST, ZERO_CLAIM
 from pair_cases import CASES, T_OF_004
 from pair_cases import K as T_OF_CASE_K
 from programs import run
@@ -92,17 +92,19 @@ VERDICTS = [
     ("k with 9", (2, 1), 0, (0, 0), Claim((4, 6), 9), T_OF_CASE_K, "broken"),
     ("l, excluded", (0, 0), 1, (3, 0), Claim((-1, 0), -2), T_OF_004, "proof"),
     ("l, not excluded", (0, 0), 1, (3, 0), Claim((-1, 1), -2), T_OF_004, "target-inside"),
-    ("all zero, constant 0", (0, 0), 0, (1, 0), Claim((0, 0), 0), T_OF_004, "target-inside"),
-    ("all zero, constant 1", (9, 9), 0, (1, 0), Claim((0, 0), 1), T_OF_004, "start-outside"),
+    ("a zero, constant 0", (0, 0), 0, (1, 0), Claim((0, 1), 0), T_OF_004, "target-inside"),
+    ("a zero, constant 1", (9, 0), 0, (1, 0), Claim((0, 1), 1), T_OF_004, "start-outside"),
+    ("a zero, kept", (0, 9), 0, (1, 0), Claim((0, 1), 1), T_OF_004, "proof"),
+    ("a zero, broken", (9, 0), 0, (0, 1), Claim((1, 0), 2), T_OF_004, "broken"),
 ]
 
 REDUCED = [
     (Claim((6, -9), 12), Claim((2, -3), 4)),
     (Claim((-6, 0), -4), Claim((-3, 0), -2)),
     (Claim((2, 2), 5), Claim((2, 2), 5)),
-    (Claim((0, 0), -5_000), Claim((0, 0), -1)),
+    (Claim((0, -100), -5_000), Claim((0, -1), -50)),
     (Claim((100, -100), 0), Claim((1, -1), 0)),
-    (Claim((0, 0), 0), Claim((0, 0), 0)),
+    (Claim((0, 7), 0), Claim((0, 1), 0)),
 ]
 
 # Claims with the lowest number of an earlier twin.
@@ -111,11 +113,11 @@ TWINS = [
     (Claim((2, 2), 4), 1),
     (Claim((-1, -1), -2), None),
     (Claim((1, 1), -2), None),
-    (Claim((0, 0), 0), None),
-    (Claim((0, 0), 0), 5),
-    (Claim((0, 0), 3), None),
-    (Claim((0, 0), 7), 7),
-    (Claim((0, 0), -3), None),
+    (Claim((0, 3), 0), None),
+    (Claim((0, 1), 0), 5),
+    (Claim((0, 1), 3), None),
+    (Claim((0, 7), 21), 7),
+    (Claim((0, 1), -3), None),
     (Claim((2, 2), 5), None),
     (Claim((3, 3), 6), 1),
     (Claim((-7, -7), -14), 3),
@@ -162,6 +164,7 @@ LISTINGS = [
         "places 2 transitions 3 claims 2\nclaim 1 broken 2 1 0\nclaim 2 broken 2 1 0 twin 1\n",
     ),
     (HEAD, "refused 9 at 23\n"),
+    (ZERO_CLAIM, "refused 18 at 29\n"),
     (b"", "refused 1 at 0\n"),
     (b"N", "refused 1 at 0\n"),
 ]

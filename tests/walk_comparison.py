@@ -17,13 +17,14 @@ from make_walks import Walk, made_walks
 from second.calls import Asked, begin_line, step_lines
 from second.listing import Line
 from second.sheet import read
-from tables import check_counts
+from tables import check_counts, refused_sheet
 from walks_by_hand import WALKS
 
 # Of each column how many there must be.
 LEAST = {
     "walks": 20_000,
     "refused sheet": 900,
+    "zero claim": 40,
     "moved": 40_000,
     "refused 12": 5_000,
     "refused 15": 25_000,
@@ -52,7 +53,7 @@ def columns_of(lines: list[Line]) -> list[str]:
     """What a walk's answer adds one to, a column as often as it has that."""
     begun, *steps = (line.opening.split()[3] for line in lines)  # the numbers of the refusals
     if begun != "0":
-        return ["walks", "refused sheet"]
+        return ["walks", *refused_sheet(int(begun))]
     return ["walks", *("moved" if number == "0" else f"refused {number}" for number in steps)]
 
 

@@ -1,11 +1,11 @@
-"""Walks with what 01 says of each, written by hand."""
+"""Walks with what 01, and of a zero claim 02, says of each, written by hand."""
 
 from make_walks import Walk
-from named_cases import FIRST, HEAD, MIDDLE, hexed
+from named_cases import FIRST, HEAD, MIDDLE, ZERO_CLAIM, hexed
 from second.limits import MOST_TOKENS
 
 # One place, which is full. The first transition takes one and puts one, the second takes none and puts one.
-FULL = hexed("4E 50 01 02", "54 52 01 01", "54 52 00 01", "4D 4B FF FF", "54 47 00 00 00", "48 53 00 00 00")
+FULL = hexed("4E 50 01 02", "54 52 01 01", "54 52 00 01", "4D 4B FF FF", "54 47 00 00 00", "48 53 01 00 00")
 
 
 def by_hand(kind: str, data: bytes, marking: str, steps: list[int], *lines: str) -> tuple[Walk, list[str]]:
@@ -60,5 +60,6 @@ WALKS = [
     by_hand("no step", FIRST, "5 6 7", [], "start 2"),
     by_hand("empty sheet", b"", "1 2 3", [1, 0], "refused 1 at 0", "refused 1 at 0 1 2 3", "refused 1 at 0 1 2 3"),
     by_hand("sheet of one byte", b"N", "1", [1], "refused 1 at 0", "refused 1 at 0 1"),
+    by_hand("zero claim", ZERO_CLAIM, "2 0 5", [1, 2], "refused 18 at 29", "refused 18 at 29 2 0 5", "refused 18 at 29 2 0 5"),
     by_hand("sheet without a claim", HEAD, "2", [1, 2], "refused 9 at 23", "refused 9 at 23 2", "refused 9 at 23 2"),
 ]

@@ -2,7 +2,7 @@
 
 from lists_by_hand import LISTS
 from make_listings import Made
-from named_cases import FIRST, HEAD
+from named_cases import FIRST, HEAD, ZERO_CLAIM
 from pair_cases import T_OF_004
 from second.calls import every_line
 from second.listing import right_text
@@ -22,12 +22,16 @@ CASE_J = write(
         claims=(Claim((2, -3), 0), Claim((4, -6), 0)),
     )
 )
-LISTED = [Made("by hand", data) for data in [FIRST, HEAD, CASE_J]]
+LISTED = [Made("by hand", data) for data in [FIRST, HEAD, ZERO_CLAIM, CASE_J]]
 LISTED_FINE = "listing: number 0 at 0, text 4096 written, marks 20000 zero, queue 20000 zero\n"
 LISTING_OF_J = f"{LISTED_FINE}places 2 transitions 2 claims 2\nclaim 1 broken 2 2 1\nclaim 2 broken 2 3 2 twin 1\n.\n"
 LISTING_REFUSED = "listing: number 9 at 23, text 4096 kept, marks 20000 kept, queue 20000 kept\n"
 REFUSAL_TEXT = "refusal_text: number 0 at 0, text 4096 written\nrefused 9 at 23\n"
-RIGHT_LISTINGS = f"{LISTED_FINE}{LISTING_OF_01}.\n{LISTING_REFUSED}{REFUSAL_TEXT}.\n{LISTING_OF_J}"
+LISTING_OF_ZERO = f"{LISTING_REFUSED}{REFUSAL_TEXT}".replace("9 at 23", "18 at 29") + ".\n"
+RIGHT_LISTINGS = f"{LISTED_FINE}{LISTING_OF_01}.\n{LISTING_REFUSED}{REFUSAL_TEXT}.\n{LISTING_OF_ZERO}{LISTING_OF_J}"
+
+# What 01 alone would list where 02 refuses.
+ZERO_JUDGED = f"{LISTED_FINE}{LISTING_OF_01}.\n".replace("claim 2 start-outside", "claim 2 target-inside")
 
 CLAIM_1, CLAIM_2 = "claim 1 proof\n", "claim 2 start-outside\n"
 
@@ -61,6 +65,10 @@ WRONG_LISTINGS = [
     ("a detail", HEAD, "refused 9 at 23", "refused 9 at 24"),
     ("words before a refusal", HEAD, "refused 9 at 23", "places 2 transitions 1 claims 0\nrefused 9 at 23"),
     ("a refusal not printed", HEAD, "refused 9 at 23\n", ""),
+    ("a zero claim judged", ZERO_CLAIM, LISTING_OF_ZERO, ZERO_JUDGED),
+    ("7 for 18", ZERO_CLAIM, "refused 18 at 29", "refused 7 at 33"),
+    ("18 with the claim's number", ZERO_CLAIM, "refused 18 at 29", "refused 18 at 2"),
+    ("18 at the first coefficient", ZERO_CLAIM, "number 18 at 29", "number 18 at 31"),
     ("another transition", CASE_J, "broken 2 2 1\n", "broken 1 2 1\n"),
     ("a marking that isn't inside", CASE_J, "broken 2 2 1\n", "broken 2 2 2\n"),
     ("a marking that stays inside", CASE_J, "broken 2 2 1\n", "broken 2 4 1\n"),
@@ -85,8 +93,9 @@ WRONG_LISTINGS = [
     ("an end by a signal", CASE_J, LISTING_OF_J, LISTING_OF_J + "(ended with status -11)"),
 ]
 
-# 01's walk, the full place and the sheet without a claim.
-WALKED = [(walk, lines) for walk, lines in WALKS if walk.kind in ["01's", "a full place", "sheet without a claim"]]
+# 01's walk, the full place, the sheet with a zero claim and the one without a claim.
+WALK_KINDS = ["01's", "a full place", "zero claim", "sheet without a claim"]
+WALKED = [(walk, lines) for walk, lines in WALKS if walk.kind in WALK_KINDS]
 ANSWERS = ["".join(line + "\n" for line in [*lines, "."]) for _, lines in WALKED]
 RIGHT_WALKS = "".join(ANSWERS)
 
@@ -109,6 +118,9 @@ WRONG_WALKS = [
     ("overflow before the tokens taken have left", FULL, f"{MOVED} 65535", "step 1: refusal 16 at 1, tokens 65535"),
     ("no overflow", FULL, "step 2: refusal 16 at 1, tokens 65535", "step 2: refusal 0 at 0, tokens 0"),
     ("15 for 16", FULL, "refusal 16 at 1", "refusal 15 at 1"),
+    ("a start with a zero claim", ZERO_CLAIM, "begin 0: refusal 18 at 29, tokens 0", f"{BEGUN} 2"),
+    ("a step with a zero claim", ZERO_CLAIM, "step 1: refusal 18 at 29, tokens 2 0", f"{MOVED} 1 1"),
+    ("12 before 18", ZERO_CLAIM, "step 2: refusal 18 at 29", "step 2: refusal 12 at 2"),
     ("12 before the sheet's refusal", HEAD, "step 2: refusal 9 at 23", "step 2: refusal 12 at 2"),
     ("no marking after a refused sheet", HEAD, "at 23, tokens 2", "at 23, tokens 0"),
     ("a start from a refused sheet", HEAD, "begin 0: refusal 9 at 23, tokens 0", "begin 0: refusal 9 at 23, tokens 2"),
@@ -118,13 +130,16 @@ WRONG_WALKS = [
     ("an end by a signal after a walk", HEAD, LAST, LAST + "(ended with status -11)"),
 ]
 
-# Lists on 01's sheet, on the full place, and on the sheet without a claim.
-KINDS = ["an empty list", "two steps", "the third refused", "64 steps", "65 steps", "refused sheet, 65 steps"]
-FIRED = [(made, line) for made, line in LISTS if made.kind in KINDS]
+# Lists on 01's sheet, on the full place, on the sheet with a zero claim and on the one without a claim.
+FINE_KINDS = ["an empty list", "two steps", "64 steps"]
+REFUSED_KINDS = ["the third refused", "65 steps", "zero claim", "zero claim, 65 steps", "refused sheet, 65 steps"]
+FIRED = [(made, line) for made, line in LISTS if made.kind in FINE_KINDS + REFUSED_KINDS]
 RIGHT_LISTS = "".join(f"{line}\n.\n" for _, line in FIRED)
 
 THIRD = f"refusal 15 at 1, position 3, tokens 2 0{NONE}"
 TOO_LONG = "refusal 17 at 65, position 0, tokens 65470"
+WITH_ZERO = "fire_list 1: refusal 18 at 29, position 0, tokens 2 0"
+LONG_WITH_ZERO = "fire_list 65: refusal 18 at 29, position 0"
 LAST_LIST = f"{FIRED[-1][1]}\n.\n"
 
 WRONG_LISTS = [
@@ -139,6 +154,9 @@ WRONG_LISTS = [
     ("a list of 65 fired", FULL, TOO_LONG, "refusal 0 at 0, position 0, tokens 65535"),
     ("17 with the most there may be", FULL, TOO_LONG, TOO_LONG.replace("at 65", "at 64")),
     ("17 with a position", FULL, TOO_LONG, TOO_LONG.replace("position 0", "position 65")),
+    ("a list with a zero claim", ZERO_CLAIM, WITH_ZERO, "fire_list 1: refusal 0 at 0, position 0, tokens 1 1"),
+    ("18 with a position", ZERO_CLAIM, WITH_ZERO, WITH_ZERO.replace("position 0", "position 1")),
+    ("17 before 18", ZERO_CLAIM, LONG_WITH_ZERO, "fire_list 65: refusal 17 at 65, position 0"),
     ("17 before the sheet's refusal", HEAD, "refusal 9 at 23", "refusal 17 at 65"),
     ("a missing list", HEAD, LAST_LIST, ""),
     ("a list too many", HEAD, LAST_LIST, 2 * LAST_LIST),
@@ -190,6 +208,10 @@ WRONG_CALLS = [
     ("11 before the sheet's refusal", HEAD, "verdict 0: refusal 9 at 23", "verdict 0: refusal 11 at 0"),
     ("a detail, called", HEAD, "twin 1: refusal 9 at 23", "twin 1: refusal 9 at 0"),
     ("counts of a refused sheet", HEAD, "refusal 9 at 23, counts 0 0 0", "refusal 9 at 23, counts 2 1 0"),
+    ("a zero claim judged, called", ZERO_CLAIM, "verdict 1: refusal 18 at 29, answer 0", "verdict 1: refusal 0 at 0, answer 4"),
+    ("11 before 18, called", ZERO_CLAIM, "claim_check 0: refusal 18 at 29", "claim_check 0: refusal 11 at 0"),
+    ("18 at the first coefficient, called", ZERO_CLAIM, "twin 1: refusal 18 at 29", "twin 1: refusal 18 at 31"),
+    ("counts with a zero claim", ZERO_CLAIM, "refusal 18 at 29, counts 0 0 0", "refusal 18 at 29, counts 2 1 5"),
     ("another verdict in a text", FIRST, "claim 3 target-inside\n", "claim 3 proof\n"),
     ("a text of another length", FIRST, "text 4096 written", "text 4096 dirty"),
     ("a text written by a refusal", FIRST, "text 4095 kept", "text 4095 dirty"),

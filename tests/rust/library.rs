@@ -220,6 +220,10 @@ fn refusals() {
         assert_eq!(krunvedo_read(bytes(&[])).refusal, refused(1, 0));
         assert_eq!(krunvedo_read(bytes(&FIRST[..23])).refusal, refused(9, 23));
         assert_eq!(krunvedo_start(bytes(&FIRST[..22])).refusal, refused(1, 16));
+        let mut zero_claim = FIRST;
+        zero_claim[31] = 0; // the other coefficient of claim 2 is 0 already
+        assert_eq!(krunvedo_read(bytes(&zero_claim)).refusal, refused(18, 29));
+        assert_eq!(krunvedo_half_space(bytes(&zero_claim), 1).refusal, refused(18, 29));
         assert_eq!(krunvedo_weights(bytes(&FIRST), usize::MAX).refusal, refused(12, usize::MAX));
         assert_eq!(krunvedo_claim_check(bytes(&FIRST), 0), refused(11, 0));
         assert_eq!(krunvedo_claim_record(bytes(&FIRST), 6), Record { refusal: refused(11, 6), offset: 0, length: 0 });

@@ -1,1 +1,1 @@
-"""The independent second program: written from document 01 alone, sharing no code with the library or its programs."""
+"""The independent second program: written from documents 01 and 02 alone, sharing no code with the library or its programs."""

@@ -125,7 +125,8 @@ def claim_lines(asked: Asked, numbers: Iterable[int]) -> Iterator[str]:
     for i in numbers:
         refused = asked.claim_refused(i)
         claim = NO_CLAIM if refused else asked.sheet.claims[i - 1]
-        for call, (coefficients, constant) in [("half_space", claim), ("reduced", reduced(claim))]:
+        spaces = {"half_space": claim, "reduced": NO_CLAIM if refused else reduced(claim)}
+        for call, (coefficients, constant) in spaces.items():
             yield f"{call} {i}: {refusal(refused)}, coefficients {row(coefficients)}, constant {constant}"
         yield f"claim_check {i}: {refusal(refused)}"
         offset, length = (0, 0) if refused else places[i - 1]

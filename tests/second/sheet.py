@@ -1,10 +1,12 @@
-"""Reads a sheet by the rules of document 01, and writes one. Quoted sentences are 01's."""
+"""Reads a sheet by the rules of document 01, and writes one. Quoted sentences are 01's, and of refusal 18 Req 02's."""
 
 from collections.abc import Iterable
 from dataclasses import dataclass
 from typing import NamedTuple
 
 from second import limits
+
+REFUSALS = (*range(1, 10), 18)  # of a sheet by itself
 
 
 class Transition(NamedTuple):
@@ -123,6 +125,9 @@ def _claim(data: bytes, fields: range) -> Claim:
     """A claim's fields: "n coefficients, one byte each, then the constant, two bytes"."""
     coefficients = tuple(_checked_signed(data, at, 1, limits.MOST_COEFFICIENT, 6) for at in fields[:-2])
     constant = _checked_signed(data, fields[-2], 2, limits.MOST_CONSTANT, 7)
+    # "Every coefficient zero" is 18, "at the record's first byte, after 7 of the same record and before anything in the next".
+    if not any(coefficients):
+        raise _Fault(18, fields.start - len(b"HS"))
     return Claim(coefficients, constant)
 
 

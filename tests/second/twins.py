@@ -9,9 +9,7 @@ from second.sheet import Claim
 def reduced(claim: Claim) -> Claim:
     """ "Divides all coefficients and the constant by the greatest common divisor of their sizes"."""
     coefficients, constant = claim
-    divisor = gcd(*coefficients, constant)  # of their sizes: math.gcd leaves signs aside
-    if divisor == 0:
-        return claim  # "where all are zero it is the claim itself"
+    divisor = gcd(*coefficients, constant)  # of their sizes: math.gcd leaves signs aside; by Req 02 not all are zero
     return Claim(tuple(coefficient // divisor for coefficient in coefficients), constant // divisor)
 
 

@@ -1,12 +1,14 @@
 // What every record is made of: its mark, its length, and fields of one kind.
 ghost use mathlib.Core.Path.{_≡_};
+ghost use mathlib.Core.List.{map};
 ghost use Prim.Native.Nat.{_+_, _≤_};
 ghost use lib.ListN.{length};
 ghost use Rattle.signed.specs.Twos.{twos8};
 ghost use Rattle.terms.specs.Limits.{weightFits, coefficientFits, constantFits};
 ghost use Rattle.refusals.specs.Refusals.{refusedAt};
+ghost use Rattle.format.specs.Contents.{someNonzero};
 ghost use Rattle.format.specs.Read.{need};
-ghost use Rattle.format.specs.Reading.{markedAt, wholeAt, openedAt, eachFits, signedWord};
+ghost use Rattle.format.specs.Reading.{markedAt, wholeAt, openedAt, eachFits, signedWord, bytes};
 ghost use Rattle.fields.specs.Checked.{checked};
 use amounts::Coefficient;
 use amounts::Constant;
@@ -101,4 +103,20 @@ pub fn constant(s: &[u8], at: usize) -> Check
         return refuse(7, at);
     }
     Check::Fine
+}
+
+// Is one of so many coefficients, from a byte on, other than zero? A record of zeros is refused at its first byte.
+pub fn nonzero(s: &[u8], from: usize, count: usize, first: usize) -> Check
+    requires { ⌜ from + count ≤ length (now s) ⌝ }
+    ensures { λ r. ⌜ r ≡ checked (need (someNonzero (map twos8 (bytes (now (s .entry)) from count))) 18 first) ⌝ }
+{
+    let end = from + count;
+    let mut at = from;
+    while at < end {
+        if s[at] != 0 {
+            return Check::Fine;
+        }
+        at += 1;
+    }
+    refuse(18, first)
 }

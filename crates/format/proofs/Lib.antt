@@ -5,6 +5,7 @@ pub mod Everywhere
 pub mod Standing
 pub mod Parts
 pub mod Numbers
+pub mod Nonzero
 pub mod Fields
 pub mod Records
 pub mod Lists

@@ -1,4 +1,4 @@
--- The longest sheet has 2,889 bytes: each count is at most its limit, and zeros reach every limit.
+-- The longest sheet has 2,889 bytes: each count is at most its limit, and small numbers reach every limit.
 use mathlib.Core.Path.{_≡_, refl}
 use Prim.Native.Nat.{ℕ, zero, suc, _*_, _≤_}
 use native.Mathlib.Nat.{mul-le-mul}
@@ -8,7 +8,7 @@ use lib.ListN.{length, replicate, length-append}
 use borrow.Author.Tests.{leb-true}
 use Rattle.nets.specs.Nets.{Transition}
 use Rattle.nets.specs.Verdicts.{exact}
-use Rattle.format.specs.Contents.{Claim, Contents}
+use Rattle.format.specs.Contents.{Claim, someNonzero, Contents}
 use Rattle.format.specs.Reading.{transitionSize, claimSize}
 use Rattle.format.specs.Formed.{All, Row, IsWeight, IsTokens, IsCoefficient, FormedTransition, FormedClaim, Formed}
 use Rattle.format.specs.Encoding.{joined, claimBytes, settingBytes, encoded}
@@ -32,12 +32,12 @@ at-most-longest {x} f =
     omega
     (arith, length-append (settingBytes (x .setting)) (joined claimBytes (x .claims)), length-setting (x .setting) (f .setting), length-joined (FormedClaim n) claimBytes (claimSize n) (length-claim n) (x .claims) (f .claims))
 
--- zeros at every limit
+-- every count at its limit
 idle : Transition
 idle = record { taken = replicate 16 0; put = replicate 16 0 }
 
 everywhere : Claim
-everywhere = record { coefficients = replicate 16 (pos 0); constant = pos 0 }
+everywhere = record { coefficients = replicate 16 (pos 1); constant = pos 0 }
 
 unfoldable pub longest : Contents
 unfolding idle everywhere
@@ -60,7 +60,7 @@ row : {A : Type 0} (P : A → Type 0) (a : A) → P a → Row 16 P (replicate 16
 row P a p = record { places = refl; each = all-replicate P 16 a p }
 
 pub longest-formed : Formed longest
-unfolding longest idle everywhere
+unfolding longest idle everywhere someNonzero
 longest-formed =
     record {
       setting = record {
@@ -72,7 +72,7 @@ longest-formed =
       };
       some = omega arith;
       most = omega arith;
-      claims = all-replicate (FormedClaim 16) 32 everywhere (record { coefficients = row IsCoefficient (pos 0) refl; constant = refl });
+      claims = all-replicate (FormedClaim 16) 32 everywhere (record { coefficients = row IsCoefficient (pos 1) refl; constant = refl; nonzero = refl });
     }
 
 pub longest-reaches : length (encoded longest) ≡ 2889

@@ -11,7 +11,7 @@ use Rattle.terms.specs.Limits.{placesFit, transitionsFit, weightFits, coefficie
 use Rattle.nets.specs.Nets.{Marking, Transition}
 use Rattle.nets.specs.Verdicts.{Target}
 use Rattle.format.specs.Read.{sound}
-use Rattle.format.specs.Contents.{Claim}
+use Rattle.format.specs.Contents.{Claim, someNonzero}
 use Rattle.format.specs.Reading.{byte, signedWord, bytes, words, eachFits, headSize, transitionSize, startSize, targetSize, claimSize, Size, sizeOf, headOf, transitionIn, transitionAt, startAt, kindOf, targetAt, claimIn, claimAt, claimDue}
 use Rattle.format.specs.Formed.{All, IsSheet, Row, IsWeight, IsTokens, FormedTransition, FormedClaim}
 use Rattle.format.specs.Encoding.{joined, wordBytes, signedByte, signedBytes, kindByte, transitionBytes, startBytes, targetBytes, claimBytes}
@@ -129,20 +129,20 @@ module _ (s : List ℕ) (small : IsSheet s) where
   )
 
   -- HS
-  claim-in : (n at : ℕ) → Stands s at (0x48 ∷ 0x53 ∷ []) → at + claimSize n ≤ length s → eachFits (λ b. coefficientFits (twos8 b)) 6 s (at + 2) n ≡ sound tt → constantFits (signedWord s (at + 2 + n)) ≡ true → FormedClaim n (claimIn s n at) × Stands s at (claimBytes (claimIn s n at))
-  claim-in n at mark h f c =
+  claim-in : (n at : ℕ) → Stands s at (0x48 ∷ 0x53 ∷ []) → at + claimSize n ≤ length s → eachFits (λ b. coefficientFits (twos8 b)) 6 s (at + 2) n ≡ sound tt → constantFits (signedWord s (at + 2 + n)) ≡ true → someNonzero (claimIn s n at .coefficients) ≡ true → FormedClaim n (claimIn s n at) × Stands s at (claimBytes (claimIn s n at))
+  claim-in n at mark h f c z =
       let ks : List ℕ = map signedByte (map twos8 (bytes s (at + 2) n)) in
       let cs : List ℕ = signedBytes (signedWord s (at + 2 + n)) in
       let k = coefficients-stand s small (at + 2) n (omega arith) f in
       let many : length ks ≡ n = length-map (map twos8 (bytes s (at + 2) n)) signedByte ∙ k .0 .places in
       let there : Stands s (at + 2) (ks ++ cs) = stands-append s (at + 2) (at + 2 + n) ks cs (omega arith) (k .1) (constant-stands s small (at + 2 + n) (omega arith)) in
-      (record { coefficients = k .0; constant = c }, two-before s at 0x48 0x53 (ks ++ cs) mark there)
+      (record { coefficients = k .0; constant = c; nonzero = z }, two-before s at 0x48 0x53 (ks ++ cs) mark there)
 
   pub claim-exactly : (n at more : ℕ) (c : Claim) → (claimDue s n at more ≡ sound c) ↔ ((1 ≤ more) × (FormedClaim n c × Stands s at (claimBytes c)))
   unfolding claimDue claimAt
   claim-exactly n at more c = (
-    λ e. let (mark, (some, (room, (each, (constant, all))))) = simp (parts, marked-exactly, whole-exactly, ltb-exactly) at e in
-        (some, subst (λ (c : Claim). FormedClaim n c × Stands s at (claimBytes c)) (sound-same all) (claim-in n at mark room each constant)),
+    λ e. let (mark, (some, (room, (each, (constant, (nonzero, all)))))) = simp (parts, marked-exactly, whole-exactly, ltb-exactly) at e in
+        (some, subst (λ (c : Claim). FormedClaim n c × Stands s at (claimBytes c)) (sound-same all) (claim-in n at mark room each constant nonzero)),
     λ w. let (some, (f, h)) = w in
         let ks : List ℕ = map signedByte (c .coefficients) in
         let cs : List ℕ = signedBytes (c .constant) in
@@ -152,5 +152,5 @@ module _ (s : List ℕ) (small : IsSheet s) where
         let (each, p) = stand-coefficients s (at + 2) n (c .coefficients) (f .coefficients) (stands-left s (at + 2) ks cs there) in
         let q : signedWord s (at + 2 + n) ≡ c .constant = stand-constant s (at + 2 + n) (c .constant) (f .constant) (stands-right s (at + 2) (at + 2 + n) ks cs (omega arith) there) in
         simp (parts, marked-exactly, whole-exactly, ltb-exactly)
-        (mark, (some, (room, (each, (ap constantFits q ∙ f .constant, λ i. sound (record { coefficients = p i; constant = q i })))))),
+        (mark, (some, (room, (each, (ap constantFits q ∙ f .constant, (ap someNonzero p ∙ f .nonzero, λ i. sound (record { coefficients = p i; constant = q i }))))))),
   )

@@ -64,7 +64,7 @@ target-sound s n at g e =
 pub claim-sound : (s : List ℕ) (n at : ℕ) (i : Claim) → claimAt s n at ≡ sound i → (i ≡ claimIn s n at) × (at + claimSize n ≤ length s)
 unfolding claimAt
 claim-sound s n at i e =
-    let (whole, (fits, (constant, all))) = simp (parts, whole-exactly) at e in (cc, whole)
+    let (whole, (fits, (constant, (nonzero, all)))) = simp (parts, whole-exactly) at e in (cc, whole)
 
 pub due-sound : (s : List ℕ) (n at more : ℕ) (i : Claim) → claimDue s n at more ≡ sound i → (i ≡ claimIn s n at) × (at + claimSize n ≤ length s) × (0 < more)
 unfolding claimDue

@@ -8,7 +8,7 @@ use lib.IntN.{ℤ}
 use Rattle.terms.specs.Limits.{placesFit, transitionsFit, weightFits, coefficientFits, constantFits, mostClaims}
 use Rattle.nets.specs.Nets.{Transition}
 use Rattle.nets.specs.Verdicts.{Setting}
-use Rattle.format.specs.Contents.{Claim, halfSpace, Contents}
+use Rattle.format.specs.Contents.{Claim, halfSpace, someNonzero, Contents}
 
 unfoldable pub All : {A : Type 0} → (A → Type 0) → List A → Type 0
 All P [] = Unit {0}
@@ -47,6 +47,7 @@ pub record FormedSetting (q : Setting) : Type 0 where
 pub record FormedClaim (n : ℕ) (i : Claim) : Type 0 where
   pub coefficients : Row n IsCoefficient (halfSpace i .coefficients)
   pub constant : constantFits (halfSpace i .constant) ≡ true
+  pub nonzero : someNonzero (halfSpace i .coefficients) ≡ true
 
 pub record Formed (x : Contents) : Type 0 where
   pub setting : FormedSetting (x .setting)

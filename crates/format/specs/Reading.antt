@@ -11,7 +11,7 @@ use Rattle.refusals.specs.Refusals.{claimless}
 use Rattle.nets.specs.Nets.{Marking, Transition}
 use Rattle.nets.specs.Verdicts.{Kind, exact, atOrAbove, Target, Setting}
 use Rattle.format.specs.Read.{Read, sound, refused, _>>=_, _>>_, need, choose}
-use Rattle.format.specs.Contents.{Claim, Contents}
+use Rattle.format.specs.Contents.{Claim, someNonzero, Contents}
 
 -- Byte places count from 0. Numbers of two bytes are little-endian.
 abbrev pub byte : List ℕ → ℕ → ℕ
@@ -130,6 +130,7 @@ claimAt s n at = do
   wholeAt s at (claimSize n)
   eachFits (λ b. coefficientFits (twos8 b)) 6 s (at + 2) n
   need (constantFits (signedWord s (at + 2 + n))) 7 (at + 2 + n)
+  need (someNonzero (claimIn s n at .coefficients)) 18 at
   sound (claimIn s n at)
 
 -- Where a claim is due its mark must stand; where no `more` may come that is 8; then come its length and fields.

@@ -14,6 +14,7 @@ use Rattle.format.specs.Formed.{All, IsSheet, Formed, FormedClaim, FormedTransi
 use Rattle.format.specs.Reading.{sizeOf, transitionIn, targetIn, claimIn, words, transitionSize, claimSize, transitionsFrom, targetFrom, claimsFrom, reading}
 use Rattle.format.proofs.Places.{Held, held}
 use Rattle.format.proofs.Accepted.{formed}
+use Rattle.format.proofs.Nonzero.{HasOther, nonzero-exactly}
 use Rattle.reader.specs.declared.Counts.{Counts}
 use Rattle.known.specs.Known.{Known}
 use Rattle.rows.proofs.Filled.{length-signed}
@@ -86,6 +87,10 @@ module _ (s : List ℕ) (k : Counts) (q : Known s k) where
     unfolding claim
     formed-claim zero l m = absurd (omega arith)
     formed-claim (suc j) l m = subst (λ (m : ℕ). FormedClaim m (getD (x .claims) j no-claim)) places-is (all-at (FormedClaim (x .setting .net .places)) no-claim (x .claims) j (omega (arith, c-is s x k there (q .counts))) (well .claims))
+
+    -- every claim has a coefficient other than zero (02, req 02)
+    pub claim-nonzero : (i : ℕ) → 1 ≤ i → i ≤ k .claims → HasOther (halfSpace (claim x i) .coefficients)
+    claim-nonzero i l m = nonzero-exactly (halfSpace (claim x i) .coefficients) .0 (formed-claim i l m .nonzero)
 
     pub formed-transition : (t : ℕ) → 1 ≤ t → t ≤ k .transitions → FormedTransition (k .places) (transition (x .setting .net) t)
     unfolding transition

@@ -15,8 +15,8 @@ use Rattle.refusals.specs.declared.Refusal.{Refusal}
 use Rattle.terms.specs.declared.Transition.{Transition}
 use Rattle.nets.specs.Nets as nets
 use Rattle.format.specs.Read.{Read, sound, refused, _>>=_, _>>_, need, choose}
-use Rattle.format.specs.Contents.{Contents}
-use Rattle.format.specs.Reading.{byte, signedWord, markedAt, wholeAt, openedAt, eachFits, headSize, transitionSize, startSize, targetSize, claimSize, Size, headOf, transitionAt, transitionsAt, startAt, targetAt, claimAt, claimDue, claimsAt, transitionsFrom, startFrom, targetFrom, claimsFrom, settingOf, claimsOf, reading}
+use Rattle.format.specs.Contents.{someNonzero, Contents}
+use Rattle.format.specs.Reading.{byte, signedWord, markedAt, wholeAt, openedAt, eachFits, headSize, transitionSize, startSize, targetSize, claimSize, Size, headOf, transitionAt, transitionsAt, startAt, targetAt, claimIn, claimAt, claimDue, claimsAt, transitionsFrom, startFrom, targetFrom, claimsFrom, settingOf, claimsOf, reading}
 use Rattle.fields.specs.Checked.{checked}
 use Rattle.refusals.specs.declared.Check.{Check}
 use Rattle.refusals.specs.declared.Check.the-variants.{Fine, Refused}
@@ -99,7 +99,7 @@ module _ (s : List ℕ) where
 
   one-claim : (n at : ℕ) → Numbered (claimAt s n at)
   unfolding claimAt
-  one-claim n at = followed _ _ (whole at (claimSize n)) (followed _ _ (each (λ b. coefficientFits (twos8 b)) 6 (omega arith) (at + 2) n) (followed _ _ (needed (constantFits (signedWord s (at + 2 + n))) 7 (at + 2 + n) (omega arith)) (fine _)))
+  one-claim n at = followed _ _ (whole at (claimSize n)) (followed _ _ (each (λ b. coefficientFits (twos8 b)) 6 (omega arith) (at + 2) n) (followed _ _ (needed (constantFits (signedWord s (at + 2 + n))) 7 (at + 2 + n) (omega arith)) (followed _ _ (needed (someNonzero (claimIn s n at .coefficients)) 18 at (omega arith)) (fine _))))
 
   due : (n at more : ℕ) → Numbered (claimDue s n at more)
   unfolding claimDue

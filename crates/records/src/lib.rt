@@ -8,6 +8,7 @@ ghost use Rattle.records.specs.Sized.{sizedOf};
 use amounts::Kind;
 use fields::coefficients;
 use fields::constant;
+use fields::nonzero;
 use fields::opened;
 use fields::refuse;
 use fields::weights;
@@ -88,7 +89,7 @@ pub fn target(s: &[u8], n: usize, at: usize) -> Check
     Check::Fine
 }
 
-// HS, behind its mark: the coefficients and the constant. How many claims came before plays no part here.
+// HS, behind its mark: the coefficients, then the constant, and last that not all coefficients are zero. How many claims came before plays no part here.
 pub fn claim(s: &[u8], n: usize, at: usize) -> Check
     requires { ⌜ (n ≤ 16) × (at ≤ length (now s)) ⌝ }
     ensures { λ r. ⌜ r ≡ checked (claimAt (now (s .entry)) n at) ⌝ }
@@ -97,9 +98,15 @@ pub fn claim(s: &[u8], n: usize, at: usize) -> Check
     let Check::Fine = all else {
         return all;
     };
-    let each = coefficients(s, at + 2, n);
+    let from = at + 2;
+    let each = coefficients(s, from, n);
     let Check::Fine = each else {
         return each;
     };
-    constant(s, at + 2 + n)
+    let fits = constant(s, from + n);
+    let some = nonzero(s, from, n, at);
+    let Check::Fine = fits else {
+        return fits;
+    };
+    some
 }
