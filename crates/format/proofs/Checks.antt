@@ -4,10 +4,10 @@ use mathlib.Core.List.{List}
 use Prim.Native.Nat.{ℕ, _+_, _≤_}
 use lib.ListN.{length}
 use Rattle.refusals.specs.declared.Refusal.{Refusal}
 use Rattle.format.specs.Read.{Read, sound, refused, _>>=_, _>>_}
 use Rattle.format.specs.Reading.{wholeAt, openedAt}
 use Rattle.format.proofs.Sound.{whole-sound, opened-sound}
-use Rattle.fields.specs.Checked.{checked}
+use Rattle.format.specs.Checked.{checked}
 use Rattle.refusals.proofs.Outcomes.{fine-not-refused}
 use Rattle.refusals.specs.declared.Check.{Check}
 use Rattle.refusals.specs.declared.Check.the-variants.{Fine, Refused}

@@ -13,3 +13,4 @@ pub mod Accepted
 pub mod ClaimRecord
 pub mod OneAnswer
 pub mod Longest
+pub mod Checks

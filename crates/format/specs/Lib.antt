@@ -4,3 +4,4 @@ pub mod Reading
 pub mod Formed
 pub mod Encoding
 pub mod Answers
+pub mod Checked

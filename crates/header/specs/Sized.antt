@@ -1,8 +1,8 @@
 -- What NP answers, over what it is read as.
 use Rattle.format.specs.Read.{Read, sound, refused}
 use Rattle.format.specs.Reading.{Size}
-use Rattle.records.specs.declared.Measured.{Measured}
-use Rattle.records.specs.declared.Measured.the-variants.{As, Faulty}
+use Rattle.header.specs.declared.Measured.{Measured}
+use Rattle.header.specs.declared.Measured.the-variants.{As, Faulty}
 
 -- the net's size as NP says it, or the refusal
 abbrev pub sizedOf : Read Size → Measured

@@ -17,7 +17,7 @@ use Rattle.nets.specs.Nets as nets
 use Rattle.format.specs.Read.{Read, sound, refused, _>>=_, _>>_, need, choose}
 use Rattle.format.specs.Contents.{someNonzero, Contents}
 use Rattle.format.specs.Reading.{byte, signedWord, markedAt, wholeAt, openedAt, eachFits, headSize, transitionSize, startSize, targetSize, claimSize, Size, headOf, transitionAt, transitionsAt, startAt, targetAt, claimIn, claimAt, claimDue, claimsAt, transitionsFrom, startFrom, targetFrom, claimsFrom, settingOf, claimsOf, reading}
-use Rattle.fields.specs.Checked.{checked}
+use Rattle.format.specs.Checked.{checked}
 use Rattle.refusals.specs.declared.Check.{Check}
 use Rattle.refusals.specs.declared.Check.the-variants.{Fine, Refused}
 use Rattle.sheet.specs.Held.{transitionCheck, weightsOf, weightsIn, noWeights}

@@ -11,9 +11,9 @@ use Rattle.format.specs.Reading.{Size, sizeOf, headOf, settingOf, frontOf, clai
 use Rattle.format.proofs.Sound.{head-sound}
 use Rattle.format.proofs.Places.{sizeIn, front-sound, setting-sound}
 use Rattle.reader.specs.Answers.{countedOf, answerOf, frontAnswer}
-use Rattle.records.specs.declared.Extent.{Extent}
-use Rattle.records.specs.declared.Measured.{Measured}
-use Rattle.records.specs.declared.Measured.the-variants.{As, Faulty}
+use Rattle.header.specs.declared.Extent.{Extent}
+use Rattle.header.specs.declared.Measured.{Measured}
+use Rattle.header.specs.declared.Measured.the-variants.{As, Faulty}
 use Rattle.reader.specs.declared.Reading.{Reading}
 use Rattle.reader.specs.declared.Reading.the-variants.{Malformed}
 use Rattle.reader.proofs.Sizes.{front-told, front-faulty}

@@ -10,15 +10,15 @@ use Rattle.format.specs.Read.{Read, sound, refused}
 use Rattle.format.specs.Reading.{Size, sizeOf, headOf, settingOf, frontOf}
 use Rattle.format.proofs.Sound.{head-sound}
 use Rattle.format.proofs.Places.{sizeIn, front-sound, setting-sound}
-use Rattle.fields.specs.Checked.{checked}
-use Rattle.records.specs.Sized.{sizedOf}
+use Rattle.format.specs.Checked.{checked}
+use Rattle.header.specs.Sized.{sizedOf}
 use Rattle.reader.specs.Answers.{frontAnswer}
 use Rattle.refusals.specs.declared.Check.{Check}
 use Rattle.refusals.specs.declared.Check.the-variants.{Fine, Refused}
-use Rattle.records.specs.declared.Extent.{Extent}
-use Rattle.records.specs.declared.Measured.{Measured}
-use Rattle.records.specs.declared.Measured.the-variants.{As, Faulty}
-use Rattle.fields.proofs.Checks.{fine, turned}
+use Rattle.header.specs.declared.Extent.{Extent}
+use Rattle.header.specs.declared.Measured.{Measured}
+use Rattle.header.specs.declared.Measured.the-variants.{As, Faulty}
+use Rattle.format.proofs.Checks.{fine, turned}
 
 as-not-faulty : {z : Extent} {r : Refusal} → As z ≡ Faulty r → ⊥
 as-not-faulty e = let z : _≡_ {A = ℕ} 0 1 = cc in omega arith

@@ -11,13 +11,13 @@ use Rattle.nets.specs.Nets.{Transition}
 use Rattle.format.specs.Read.{Read, sound, refused, _>>=_}
 use Rattle.format.specs.Contents.{Claim}
 use Rattle.format.specs.Reading.{Size, transitionAt, transitionsAt, transitionSize, claimDue, claimsAt, claimSize}
-use Rattle.fields.specs.Checked.{checked}
+use Rattle.format.specs.Checked.{checked}
 use Rattle.reader.specs.Answers.{countedOf}
 use Rattle.refusals.specs.declared.Check.{Check}
 use Rattle.refusals.specs.declared.Check.the-variants.{Fine, Refused}
 use Rattle.reader.specs.declared.Reading.{Reading}
 use Rattle.reader.specs.declared.Reading.the-variants.{Sound, Malformed}
-use Rattle.fields.proofs.Checks.{stop-bind, map-sound}
+use Rattle.format.proofs.Checks.{stop-bind, map-sound}
 
 module _ (s : List ℕ) (n at k t : ℕ) where
   pub transitions-step : (x : Transition) → k < t → transitionAt s n at ≡ sound x → checked (transitionsAt s n at (t - k)) ≡ checked (transitionsAt s n (at + transitionSize n) (t - (k + 1)))

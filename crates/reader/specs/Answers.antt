@@ -7,8 +7,8 @@ use Rattle.format.specs.Contents.{Claim, Contents}
 use Rattle.format.specs.Reading.{Size}
 use Rattle.refusals.specs.declared.Check.{Check}
 use Rattle.refusals.specs.declared.Check.the-variants.{Fine, Refused}
-use Rattle.records.specs.declared.Measured.{Measured}
-use Rattle.records.specs.declared.Measured.the-variants.{As, Faulty}
+use Rattle.header.specs.declared.Measured.{Measured}
+use Rattle.header.specs.declared.Measured.the-variants.{As, Faulty}
 use Rattle.reader.specs.declared.Counts.{Counts}
 use Rattle.reader.specs.declared.Reading.{Reading}
 use Rattle.reader.specs.declared.Reading.the-variants.{Sound, Malformed}

@@ -7,7 +7,7 @@ mod front; // front.rt: the records from NP to TG
 mod runs; // runs.rt: records of one kind, one after the other
 
 use front::front;
-use records::Measured;
+use header::Measured;
 use refusals::Check;
 use refusals::Refusal;
 use runs::claims;

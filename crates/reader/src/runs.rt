@@ -3,18 +3,18 @@ ghost use mathlib.Core.Path.{_≡_};
 ghost use Prim.Native.Nat.{_≤_};
 ghost use lib.ListN.{length};
 ghost use Rattle.format.specs.Reading.{sizeOf, transitionsAt, transitionsFrom, claimDue, claimsOf, claimsFrom};
-ghost use Rattle.fields.specs.Checked.{checked};
+ghost use Rattle.format.specs.Checked.{checked};
 ghost use Rattle.reader.specs.Answers.{countedOf};
 use super::Counts;
 use super::Reading;
-use fields::marked;
-use fields::refuse;
 use layout::claims_from;
+use marks::marked;
 use records::claim;
 use records::transition;
 use refusals::Check;
 use refusals::Detail;
 use refusals::Refusal;
+use refusals::refuse;
 use terms::Claim;
 
 // The transitions' records, from the head on.

@@ -1,58 +1,18 @@
-// One record of each kind, its fields in order: document 01, "What the sheet holds".
+// One record of each kind but NP, its fields in order: document 01, "What the sheet holds".
 ghost use mathlib.Core.Path.{_≡_};
 ghost use Prim.Native.Nat.{_≤_};
 ghost use lib.ListN.{length};
-ghost use Rattle.format.specs.Reading.{headOf, transitionAt, startAt, targetAt, claimAt};
-ghost use Rattle.fields.specs.Checked.{checked};
-ghost use Rattle.records.specs.Sized.{sizedOf};
+ghost use Rattle.format.specs.Reading.{transitionAt, startAt, targetAt, claimAt};
+ghost use Rattle.format.specs.Checked.{checked};
 use amounts::Kind;
 use fields::coefficients;
 use fields::constant;
 use fields::nonzero;
-use fields::opened;
-use fields::refuse;
 use fields::weights;
-use fields::whole;
+use marks::opened;
+use marks::whole;
 use refusals::Check;
-use refusals::Refusal;
-use terms::Place;
-use terms::Transition;
-use terms::among;
-
-// The numbers of places and transitions.
-pub struct Extent {
-    pub places: usize,
-    pub transitions: usize,
-}
-
-// A net's extent, or the refusal of the sheet's first fault so far.
-pub enum Measured {
-    As(Extent),
-    Faulty(Refusal),
-}
-
-// NP: the numbers of places and transitions.
-pub fn head(s: &[u8]) -> Measured
-    ensures { λ r. ⌜ r ≡ sizedOf (headOf (now (s .entry))) ⌝ }
-{
-    let opening = opened(s, 0, b'N', b'P', 4);
-    if let Check::Refused(r) = opening {
-        return Measured::Faulty(r);
-    }
-    let n = s[2] as usize;
-    let t = s[3] as usize;
-    let some_places = among(n, Place::MOST);
-    if !some_places {
-        return Measured::Faulty(Refusal::at_byte(3, 2));
-    }
-    if Transition::MOST < t {
-        return Measured::Faulty(Refusal::at_byte(3, 3));
-    }
-    Measured::As(Extent {
-        places: n,
-        transitions: t,
-    })
-}
+use refusals::refuse;
 
 // TR: the weights taken and put.
 pub fn transition(s: &[u8], n: usize, at: usize) -> Check

@@ -115,3 +115,10 @@ pub enum Check {
     Fine,
     Refused(Refusal),
 }
+
+// A part of a sheet refused at a byte.
+pub fn refuse(number: u8, at: usize) -> Check
+    ensures { λ r. ⌜ r ≡ Check.Refused (refusedAt number at) ⌝ }
+{
+    Check::Refused(Refusal::at_byte(number, at))
+}

@@ -8,7 +8,7 @@ use borrow.Author.Tests.{not-true, not-false}
 use lib.ListN.{length}
 use Rattle.format.specs.Read.{Read}
 use Rattle.format.specs.Reading.{eachFits}
-use Rattle.fields.specs.Checked.{checked}
+use Rattle.format.specs.Checked.{checked}
 use Rattle.fields.proofs.Each.{each-all, each-step, each-stop, each-done}
 use Rattle.terms.specs.Limits.{weightFits}
 use borrow.Author.Needs.{needs}

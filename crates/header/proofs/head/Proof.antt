@@ -8,10 +8,10 @@ use borrow.Author.Tests.{le-leb, lt-leb, not-true, not-false}
 use Rattle.terms.specs.Limits.{placesFit}
 use Rattle.format.specs.Read.{Read, sound}
 use Rattle.format.specs.Reading.{byte, openedAt, headOf}
-use Rattle.fields.proofs.Checks.{fine, turned, opened-fits}
+use Rattle.format.proofs.Checks.{fine, turned, opened-fits}
 use borrow.Author.Needs.{needs}
-use Rattle.records.proofs.head.Statement.{statement}
-use Rattle.records.proofs.head.Tie as tie
+use Rattle.header.proofs.head.Statement.{statement}
+use Rattle.header.proofs.head.Tie as tie
 
 abbrev opening : List ℕ → Read (Unit {0})
 opening s = openedAt s 0 0x4E 0x50 4

@@ -5,8 +5,8 @@ use Prim.Native.Nat.{_+_}
 use lib.ListN.{length}
 use Rattle.format.specs.Reading.{byte, markedAt}
 use borrow.Author.Needs.{needs}
-use Rattle.fields.proofs.marked.Statement.{statement}
-use Rattle.fields.proofs.marked.Tie as tie
+use Rattle.marks.proofs.marked.Statement.{statement}
+use Rattle.marks.proofs.marked.Tie as tie
 
 sub-if1 : tie.Need-sub-if1
 sub-if1 c = search needs

@@ -5,8 +5,8 @@ use Prim.Native.Nat.{_+_}
 use lib.ListN.{length}
 use borrow.Author.Needs.{needs}
 use Rattle.format.specs.Reading.{wholeAt}
-use Rattle.fields.proofs.whole.Statement.{statement}
-use Rattle.fields.proofs.whole.Tie as tie
+use Rattle.marks.proofs.whole.Statement.{statement}
+use Rattle.marks.proofs.whole.Tie as tie
 
 sub-if1 : tie.Need-sub-if1
 sub-if1 c = search needs

@@ -10,8 +10,8 @@ use Rattle.refusals.specs.declared.Check.the-variants.{Fine}
 use Rattle.format.specs.Contents.{Claim, someNonzero}
 use Rattle.format.specs.Reading.{claimIn, claimSize, signedWord, eachFits, wholeAt, claimAt}
 use Rattle.format.specs.Read.{Read, sound, _>>_, need}
-use Rattle.fields.specs.Checked.{checked}
-use Rattle.fields.proofs.Checks.{stop-then, go-then, then-sound, whole-fits}
+use Rattle.format.specs.Checked.{checked}
+use Rattle.format.proofs.Checks.{stop-then, go-then, then-sound, whole-fits}
 use borrow.Author.Needs.{needs}
 use Rattle.records.proofs.claim.Statement.{statement}
 use Rattle.records.proofs.claim.Tie as tie

@@ -2,7 +2,7 @@
 use mathlib.Core.Path.{_∙_, sym}
 use Prim.Native.Nat.{_+_, _*_}
 use Rattle.format.specs.Reading.{words, openedAt, startAt}
-use Rattle.fields.proofs.Checks.{then-sound}
+use Rattle.format.proofs.Checks.{then-sound}
 use borrow.Author.Needs.{needs}
 use Rattle.records.proofs.start.Statement.{statement}
 use Rattle.records.proofs.start.Tie as tie

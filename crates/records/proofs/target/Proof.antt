@@ -7,7 +7,7 @@ use borrow.Author.Tests.{le-leb, lt-leb}
 use Rattle.terms.specs.Limits.{kindFits}
 use Rattle.format.specs.Reading.{byte, targetIn, openedAt, targetAt}
 use Rattle.format.specs.Read.{sound, _>>_, need}
-use Rattle.fields.proofs.Checks.{stop-then, go-then, opened-fits}
+use Rattle.format.proofs.Checks.{stop-then, go-then, opened-fits}
 use borrow.Author.Needs.{needs}
 use Rattle.records.proofs.target.Statement.{statement}
 use Rattle.records.proofs.target.Tie as tie

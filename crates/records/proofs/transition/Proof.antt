@@ -5,8 +5,8 @@ use Prim.Native.Nat.{_+_, _*_}
 use Rattle.terms.specs.Limits.{weightFits}
 use Rattle.format.specs.Reading.{transitionIn, eachFits, openedAt, transitionAt}
 use Rattle.format.specs.Read.{sound, _>>_}
-use Rattle.fields.specs.Checked.{checked}
-use Rattle.fields.proofs.Checks.{stop-then, go-then, then-sound, opened-fits}
+use Rattle.format.specs.Checked.{checked}
+use Rattle.format.proofs.Checks.{stop-then, go-then, then-sound, opened-fits}
 use borrow.Author.Needs.{needs}
 use Rattle.records.proofs.transition.Statement.{statement}
 use Rattle.records.proofs.transition.Tie as tie

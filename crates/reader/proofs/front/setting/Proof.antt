@@ -6,8 +6,8 @@ use Rattle.format.specs.Read.{sound, _>>=_}
 use Rattle.format.specs.Reading.{sizeOf, transitionsAt, transitionsFrom, startAt, startFrom, targetAt, targetFrom, settingOf}
 use Rattle.format.proofs.Sound.{start-sound}
 use Rattle.format.proofs.Places.{transitions-sound}
-use Rattle.fields.specs.Checked.{checked}
-use Rattle.fields.proofs.Checks.{fine, stop-bind, go-bind, map-sound}
+use Rattle.format.specs.Checked.{checked}
+use Rattle.format.proofs.Checks.{fine, stop-bind, go-bind, map-sound}
 use borrow.Author.Needs.{needs}
 use Rattle.reader.proofs.front.setting.Statement.{statement}
 use Rattle.reader.proofs.front.setting.Tie as tie

@@ -4,7 +4,7 @@ use lib.Dec.{ltb}
 use borrow.Author.Tests.{le-ltb, lt-ltb}
 use Rattle.format.specs.Read.{_>>_, need}
 use Rattle.format.specs.Reading.{markedAt, claimAt, claimDue}
-use Rattle.fields.proofs.Checks.{stop-then, go-then}
+use Rattle.format.proofs.Checks.{stop-then, go-then}
 use borrow.Author.Needs.{needs}
 use Rattle.reader.proofs.runs.claim_due.Statement.{statement}
 use Rattle.reader.proofs.runs.claim_due.Tie as tie

@@ -7,7 +7,7 @@ use borrow.Author.Tests.{le-leb, lt-leb}
 use Rattle.format.specs.Reading.{sizeOf, claimDue, claimsAt, claimsOf, claimsFrom, claimSize}
 use Rattle.format.proofs.Sound.{due-sound}
 use Rattle.reader.specs.Answers.{countedOf}
-use Rattle.fields.proofs.Checks.{fine, turned}
+use Rattle.format.proofs.Checks.{fine, turned}
 use Rattle.reader.proofs.Turns.{countedFrom, from-none, claims-step, claims-stop, claims-done}
 use borrow.Author.Needs.{needs}
 use Rattle.reader.proofs.runs.claims.Statement.{statement}

@@ -5,8 +5,8 @@ use Prim.Native.Nat.{_-_, _≤_}
 use lib.ListN.{length}
 use Rattle.format.specs.Reading.{transitionAt, transitionsAt}
 use Rattle.format.proofs.Sound.{transition-sound}
-use Rattle.fields.specs.Checked.{checked}
-use Rattle.fields.proofs.Checks.{fine}
+use Rattle.format.specs.Checked.{checked}
+use Rattle.format.proofs.Checks.{fine}
 use Rattle.reader.proofs.Turns.{transitions-step, transitions-stop, transitions-done}
 use borrow.Author.Needs.{needs}
 use Rattle.reader.proofs.runs.transitions.Statement.{statement}
