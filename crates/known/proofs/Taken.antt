@@ -19,14 +19,14 @@ use Rattle.format.specs.Reading.{size_of, words, transition_in, target_in, claim
 use Rattle.format.specs.Encoding.{claim_bytes, record_from}
 use Rattle.format.proofs.Places.{size_in, Held}
 use Rattle.format.proofs.ClaimRecord.{RecordStands}
-use Rattle.reader.specs.Answers.{countsOf, answer_of}
+use Rattle.reader.specs.Answers.{counts_of, answer_of}
 use Rattle.reader.specs.declared.Counts.{Counts}
 use Rattle.reader.specs.declared.Reading.TheVariants.{Sound, Malformed}
 
 sound_not_refused : {k : Counts} {r : Refusal} → Sound k ≡ Malformed r → ⊥
 sound_not_refused e = let z : ◌≡◌ {A = ℕ} 0 1 = cc in omega arith
 
-pub sound_answer : (y : Read Contents) {k : Counts} → answer_of y ≡ Sound k → (x : Contents) × (y ≡ sound x) × (countsOf x ≡ k)
+pub sound_answer : (y : Read Contents) {k : Counts} → answer_of y ≡ Sound k → (x : Contents) × (y ≡ sound x) × (counts_of x ≡ k)
 sound_answer (sound x) e = (x, refl, cc)
 sound_answer (refused r) e = absurd (sound_not_refused (sym e))
 
@@ -40,7 +40,7 @@ among_some i count e =
     (leb-true 1 i b.0, leb-true i count b.1)
 
 -- Where the parts of a sound sheet stand, by the counts that the reader gave.
-module _ (s : List ℕ) (x : Contents) (k : Counts) (h : Held s x) (e : countsOf x ≡ k) where
+module _ (s : List ℕ) (x : Contents) (k : Counts) (h : Held s x) (e : counts_of x ≡ k) where
   pub n_is : k.places ≡ (size_in s).n
   n_is = ap (λ (k : Counts). k.places) (sym e) ∙ h.places
 

@@ -3,10 +3,10 @@ use Rattle.std.specs.Prelude.{◌≡◌, List, ℕ}
 use Rattle.format.specs.Read.{sound}
 use Rattle.format.specs.Contents.{Contents}
 use Rattle.format.specs.Reading.{reading}
-use Rattle.reader.specs.Answers.{countsOf}
+use Rattle.reader.specs.Answers.{counts_of}
 use Rattle.reader.specs.declared.Counts.{Counts}
 
 pub record Known (s : List ℕ) (k : Counts) : Type 0 where
   pub contents : Contents
   pub is_read : reading s ≡ sound contents
-  pub counts : countsOf contents ≡ k
+  pub counts : counts_of contents ≡ k

@@ -8,7 +8,7 @@ use Rattle.nets.specs.Nets as nets
 use Rattle.nets.specs.HalfSpaces.{HalfSpace, Kept}
 use Rattle.format.specs.Read.{Read, sound, refused}
 use Rattle.format.specs.Contents.{Contents, half_space, claim}
-use Rattle.reader.specs.Answers.{countsOf}
+use Rattle.reader.specs.Answers.{counts_of}
 use Rattle.refusals.specs.declared.Check.{Check}
 use Rattle.refusals.specs.declared.Check.TheVariants.{Fine, Refused}
 use Rattle.pairs.specs.declared.Answer.{Answer}
@@ -43,4 +43,4 @@ one_checked (Refused q) x i t r p a b = same_so r p (a ∙ sym b)
 -- Two results for the same sheet, claim, transition and areas.
 pub two_answers : (y : Read Contents) (i : Claim) (t : Transition) (marks queue : ℕ) (r p : Pair) → IsPair y i t marks queue r → IsPair y i t marks queue p → SameButMarking r p
 two_answers (refused q) i t marks queue r p a b = same_so r p (a ∙ sym b)
-two_answers (sound x) i t marks queue r p a b = one_checked (counted_check (countsOf x) i t marks queue) x i t r p a b
+two_answers (sound x) i t marks queue r p a b = one_checked (counted_check (counts_of x) i t marks queue) x i t r p a b

@@ -8,7 +8,7 @@ use Rattle.nets.specs.Nets as nets
 use Rattle.nets.specs.HalfSpaces as spaces
 use Rattle.format.specs.Read.{Read, sound, refused, choose}
 use Rattle.format.specs.Contents.{Contents, half_space, claim}
-use Rattle.reader.specs.Answers.{countsOf}
+use Rattle.reader.specs.Answers.{counts_of}
 use Rattle.reader.specs.declared.Counts.{Counts}
 use Rattle.refusals.specs.declared.Check.{Check}
 use Rattle.refusals.specs.declared.Check.TheVariants.{Fine, Refused}
@@ -27,7 +27,7 @@ counted_check k i t marks queue =
 
 abbrev pub pair_check : Read Contents → Claim → Transition → ℕ → ℕ → Check
 pair_check (refused r) i t marks queue = Refused r
-pair_check (sound x) i t marks queue = counted_check (countsOf x) i t marks queue
+pair_check (sound x) i t marks queue = counted_check (counts_of x) i t marks queue
 
 -- an answer with no marking to show
 abbrev pub plain_pair : Answer → Pair
@@ -45,7 +45,7 @@ IsPairIn (Refused q) x i t r = r ≡ plain_pair (answers.Refused q)
 
 abbrev pub IsPair : Read Contents → Claim → Transition → ℕ → ℕ → Pair → Type 0
 IsPair (refused q) i t marks queue r = r ≡ plain_pair (answers.Refused q)
-IsPair (sound x) i t marks queue r = IsPairIn (counted_check (countsOf x) i t marks queue) x i t r
+IsPair (sound x) i t marks queue r = IsPairIn (counted_check (counts_of x) i t marks queue) x i t r
 
 -- a work area afterwards: its first 20,000 entries zero and the rest untouched; after a refusal all as before
 abbrev pub area_after : Check → List ℕ → List ℕ

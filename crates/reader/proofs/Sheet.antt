@@ -10,7 +10,7 @@ use Rattle.format.specs.Contents.{Claim}
 use Rattle.format.specs.Reading.{Size, size_of, head_of, setting_of, front_of, claims_from, claims_of, reading}
 use Rattle.format.proofs.Sound.{head_sound}
 use Rattle.format.proofs.Places.{size_in, front_sound, setting-sound}
-use Rattle.reader.specs.Answers.{countedOf, answer_of, frontAnswer}
+use Rattle.reader.specs.Answers.{counted_of, answer_of, front_answer}
 use Rattle.header.specs.declared.Extent.{Extent}
 use Rattle.header.specs.declared.Measured.{Measured}
 use Rattle.header.specs.declared.Measured.TheVariants.{As, Faulty}
@@ -26,18 +26,18 @@ front_refused : (s : List ℕ) {r : Refusal} → front_of s ≡ refused r → re
 unfolding front_of reading
 front_refused s e = refused_first (head_of s) (setting_of s) (λ z q. claims_of s z >>= λ is. sound (record { setting = q; claims = is })) e
 
-counted : (z : Size) (q : Setting) (x : Read (List Claim)) → q.net.places ≡ z.n → length q.net.transitions ≡ z.T → answer_of (x >>= λ is. sound (record { setting = q; claims = is })) ≡ countedOf z x
+counted : (z : Size) (q : Setting) (x : Read (List Claim)) → q.net.places ≡ z.n → length q.net.transitions ≡ z.T → answer_of (x >>= λ is. sound (record { setting = q; claims = is })) ≡ counted_of z x
 counted z q (sound is) n T = rw (n, T)
 counted z q (refused r) n T = refl
 
-front_counted : (s : List ℕ) (q : Setting) → front_of s ≡ sound q → answer_of (reading s) ≡ countedOf (size_in s) (claims_of s (size_in s))
+front_counted : (s : List ℕ) (q : Setting) → front_of s ≡ sound q → answer_of (reading s) ≡ counted_of (size_in s) (claims_of s (size_in s))
 unfolding reading
 front_counted s q e =
     let f = front_sound s q e in
     let h = setting-sound s (size_in s) q f.1 in
     rw (f.0, f.1) (counted (size_in s) q (claims_of s (size_in s)) h.places h.count)
 
-module _ (s : List ℕ) {a : Measured} (is : a ≡ frontAnswer (front_of s)) where
+module _ (s : List ℕ) {a : Measured} (is : a ≡ front_answer (front_of s)) where
   pub front_stops : {r : Refusal} → a ≡ Faulty r → Malformed r ≡ answer_of (reading s)
   front_stops e = ap answer_of (sym (front_refused s (front_faulty (front_of s) (sym is ∙ e))))
 
@@ -53,7 +53,7 @@ module _ (s : List ℕ) {a : Measured} (is : a ≡ frontAnswer (front_of s)) whe
         let all : ((size_in s).n ≤ 16) × ((size_in s).T ≤ 64) × (claims_from (size_in s) ≤ length s) = (h.places, h.transitions, f.2) in
         subst (λ (z : Size). (z.n ≤ 16) × (z.T ≤ 64) × (claims_from z ≤ length s)) (sym t.size) all
 
-    pub front_goes : {r : Reading} → r ≡ countedOf size (claims_of s size) → r ≡ answer_of (reading s)
+    pub front_goes : {r : Reading} → r ≡ counted_of size (claims_of s size) → r ≡ answer_of (reading s)
     front_goes e =
         let t = front_told s z (sym is ∙ told) in
-        e ∙ ap (λ (z : Size). countedOf z (claims_of s z)) t.size ∙ sym (front_counted s t.setting t.read)
+        e ∙ ap (λ (z : Size). counted_of z (claims_of s z)) t.size ∙ sym (front_counted s t.setting t.read)

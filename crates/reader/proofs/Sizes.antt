@@ -12,7 +12,7 @@ use Rattle.format.proofs.Sound.{head_sound}
 use Rattle.format.proofs.Places.{size_in, front_sound, setting-sound}
 use Rattle.format.specs.Checked.{checked}
 use Rattle.header.specs.Sized.{sized_of}
-use Rattle.reader.specs.Answers.{frontAnswer}
+use Rattle.reader.specs.Answers.{front_answer}
 use Rattle.refusals.specs.declared.Check.{Check}
 use Rattle.refusals.specs.declared.Check.TheVariants.{Fine, Refused}
 use Rattle.header.specs.declared.Extent.{Extent}
@@ -35,7 +35,7 @@ not_sized (refused q) e = cc
 
 -- NP's answer: its refusal is that of NP to TG, and behind a sound one TR to TG decide
 module _ (s : List ℕ) {a : Measured} (is : a ≡ sized_of (head_of s)) where
-  pub head_stops : {r : Refusal} → a ≡ Faulty r → a ≡ frontAnswer (front_of s)
+  pub head_stops : {r : Refusal} → a ≡ Faulty r → a ≡ front_answer (front_of s)
   unfolding front_of
   head_stops e = e ∙ rw (not_sized (head_of s) (sym is ∙ e))
 
@@ -54,10 +54,10 @@ module _ (s : List ℕ) {a : Measured} (is : a ≡ sized_of (head_of s)) where
     then_setting = rw (sized (head_of s) z (sym is ∙ told))
 
     module _ {k : Check} (rest : k ≡ checked (setting_of s size)) where
-      pub setting_stops : {r : Refusal} → k ≡ Refused r → Faulty r ≡ frontAnswer (front_of s)
+      pub setting_stops : {r : Refusal} → k ≡ Refused r → Faulty r ≡ front_answer (front_of s)
       setting_stops e = rw (then_setting, turned (setting_of s size) (sym rest ∙ e))
 
-      pub setting_goes : k ≡ Fine → As z ≡ frontAnswer (front_of s)
+      pub setting_goes : k ≡ Fine → As z ≡ front_answer (front_of s)
       setting_goes e =
           let (q, here) = fine (setting_of s size) (sym rest ∙ e) in
           let h = setting-sound s size q here in
@@ -69,7 +69,7 @@ pub record FrontTold (s : List ℕ) (z : Extent) : Type 0 where
   pub read : front_of s ≡ sound setting
   pub size : size_of z.places z.transitions ≡ size_in s
 
-front_parts : (s : List ℕ) (z : Extent) (x : Read Setting) → front_of s ≡ x → frontAnswer x ≡ As z → FrontTold s z
+front_parts : (s : List ℕ) (z : Extent) (x : Read Setting) → front_of s ≡ x → front_answer x ≡ As z → FrontTold s z
 front_parts s z (sound q) x e =
     let f = front_sound s q x in
     let h = setting-sound s (size_in s) q f.1 in
@@ -77,9 +77,9 @@ front_parts s z (sound q) x e =
     record { setting = q; read = x; size = rw (g, h.places, h.count) }
 front_parts s z (refused r) x e = absurd (as_not_faulty (sym e))
 
-pub front_told : (s : List ℕ) (z : Extent) → frontAnswer (front_of s) ≡ As z → FrontTold s z
+pub front_told : (s : List ℕ) (z : Extent) → front_answer (front_of s) ≡ As z → FrontTold s z
 front_told s z e = front_parts s z (front_of s) refl e
 
-pub front_faulty : (x : Read Setting) {r : Refusal} → frontAnswer x ≡ Faulty r → x ≡ refused r
+pub front_faulty : (x : Read Setting) {r : Refusal} → front_answer x ≡ Faulty r → x ≡ refused r
 front_faulty (sound q) e = absurd (as_not_faulty e)
 front_faulty (refused q) e = cc

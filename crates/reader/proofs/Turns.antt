@@ -12,7 +12,7 @@ use Rattle.format.specs.Read.{Read, sound, refused, ◌>>=◌}
 use Rattle.format.specs.Contents.{Claim}
 use Rattle.format.specs.Reading.{Size, transition_at, transitions_at, transition_size, claim_due, claims_at, claim_size}
 use Rattle.format.specs.Checked.{checked}
-use Rattle.reader.specs.Answers.{countedOf}
+use Rattle.reader.specs.Answers.{counted_of}
 use Rattle.refusals.specs.declared.Check.{Check}
 use Rattle.refusals.specs.declared.Check.TheVariants.{Fine, Refused}
 use Rattle.reader.specs.declared.Reading.{Reading}
@@ -43,7 +43,7 @@ abbrev pub counted_from : ℕ → Size → Read (List Claim) → Reading
 counted_from before z (sound is) = Sound (record { places = z.n; transitions = z.T; claims = before + length is })
 counted_from before z (refused r) = Malformed r
 
-pub from_none : (z : Size) (x : Read (List Claim)) → countedOf z x ≡ counted_from 0 z x
+pub from_none : (z : Size) (x : Read (List Claim)) → counted_of z x ≡ counted_from 0 z x
 from_none z (sound is) = ap (λ (k : ℕ). Sound (record { places = z.n; transitions = z.T; claims = k })) (omega arith)
 from_none z (refused r) = refl
 

@@ -13,27 +13,27 @@ use Rattle.reader.specs.declared.Reading.{Reading}
 use Rattle.reader.specs.declared.Reading.TheVariants.{Sound, Malformed}
 
 -- the net's own size, where NP to TG are sound, or the refusal
-abbrev pub frontAnswer : Read Setting → Measured
-frontAnswer (sound q) = As (record { places = q.net.places; transitions = length q.net.transitions })
-frontAnswer (refused r) = Faulty r
+abbrev pub front_answer : Read Setting → Measured
+front_answer (sound q) = As (record { places = q.net.places; transitions = length q.net.transitions })
+front_answer (refused r) = Faulty r
 
 -- the counts are the sheet's
-abbrev pub countsOf : Contents → Counts
-countsOf x = record { places = x.setting.net.places; transitions = length x.setting.net.transitions; claims = length x.claims }
+abbrev pub counts_of : Contents → Counts
+counts_of x = record { places = x.setting.net.places; transitions = length x.setting.net.transitions; claims = length x.claims }
 
 -- the counts, once the net's size is known
-abbrev pub countedOf : Size → Read (List Claim) → Reading
-countedOf z (sound is) = Sound (record { places = z.n; transitions = z.T; claims = length is })
-countedOf z (refused r) = Malformed r
+abbrev pub counted_of : Size → Read (List Claim) → Reading
+counted_of z (sound is) = Sound (record { places = z.n; transitions = z.T; claims = length is })
+counted_of z (refused r) = Malformed r
 
 abbrev pub answer_of : Read Contents → Reading
-answer_of (sound x) = Sound (countsOf x)
+answer_of (sound x) = Sound (counts_of x)
 answer_of (refused r) = Malformed r
 
 -- a sheet's answer as a check
-abbrev pub checkOf : Reading → Check
-checkOf (Sound k) = Fine
-checkOf (Malformed r) = Refused r
+abbrev pub check_of : Reading → Check
+check_of (Sound k) = Fine
+check_of (Malformed r) = Refused r
 
 abbrev pub IsMalformed : Reading → Type 0
 IsMalformed (Sound k) = ⊥

@@ -2,7 +2,7 @@
 ghost use Rattle.std.specs.Prelude.{◌≡◌, ◌≤◌, length};
 ghost use Rattle.format.specs.Reading.{size_of, setting_of, front_of};
 ghost use Rattle.format.specs.Checked.{checked};
-ghost use Rattle.reader.specs.Answers.{frontAnswer};
+ghost use Rattle.reader.specs.Answers.{front_answer};
 
 use super::runs::transitions;
 use header::{Measured, head};
@@ -28,7 +28,7 @@ fn setting(s: &[u8], n: usize, t: usize) -> Check
 
 // NP to TG.
 pub fn front(s: &[u8]) -> Measured
-    ensures { result ≡ frontAnswer (front_of s.now) }
+    ensures { result ≡ front_answer (front_of s.now) }
 {
     let first = head(s);
     let Measured::As(net) = first else {

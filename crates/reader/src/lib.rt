@@ -1,7 +1,7 @@
 // The reader of sheets: document 01, "What the sheet holds" and "Numbers that say no".
 ghost use Rattle.std.specs.Prelude.{◌≡◌};
 ghost use Rattle.format.specs.Reading.{reading};
-ghost use Rattle.reader.specs.Answers.{checkOf, IsMalformed, answer_of};
+ghost use Rattle.reader.specs.Answers.{check_of, IsMalformed, answer_of};
 
 mod front; // front.rt: the records from NP to TG
 mod runs; // runs.rt: records of one kind, one after the other
@@ -27,7 +27,7 @@ pub enum Reading {
 impl Reading {
     // Fine, or the sheet's refusal, for a call to pass on.
     pub fn check(self) -> Check
-        ensures { result ≡ checkOf self }
+        ensures { result ≡ check_of self }
     {
         match self {
             Reading::Sound(_) => Check::Fine,

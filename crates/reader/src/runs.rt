@@ -2,7 +2,7 @@
 ghost use Rattle.std.specs.Prelude.{◌≡◌, ◌≤◌, length};
 ghost use Rattle.format.specs.Reading.{size_of, transitions_at, transitions_from, claim_due, claims_of, claims_from};
 ghost use Rattle.format.specs.Checked.{checked};
-ghost use Rattle.reader.specs.Answers.{countedOf};
+ghost use Rattle.reader.specs.Answers.{counted_of};
 
 use super::{Counts, Reading};
 use layout::claims_from;
@@ -45,7 +45,7 @@ fn claim_due(s: &[u8], n: usize, at: usize, more: usize) -> Check
 // The claims' records, to the sheet's end.
 pub fn claims(s: &[u8], n: usize, t: usize) -> Reading
     requires { (n ≤ 16) × (t ≤ 64) × (claims_from (size_of n t) ≤ length s.now) }
-    ensures { result ≡ countedOf (size_of n t) (claims_of s.now (size_of n t)) }
+    ensures { result ≡ counted_of (size_of n t) (claims_of s.now (size_of n t)) }
 {
     let mut at = claims_from(n, t);
     if s.len() <= at {

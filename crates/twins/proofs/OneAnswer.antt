@@ -15,11 +15,11 @@ use Rattle.claims.specs.Held.{claim_check}
 use Rattle.twins.specs.declared.Reduced.{Reduced}
 use Rattle.twins.specs.declared.Twin.{Twin}
 use Rattle.twins.specs.declared.Twin.TheVariants as twins
-use Rattle.twins.specs.Answers.{shownForm, IsReducedIn, IsReducedOf, NoTwinBefore, IsFirstTwin, IsTwinNumber, TwinSays, IsTwinIn, IsTwinOf}
+use Rattle.twins.specs.Answers.{shown_form, IsReducedIn, IsReducedOf, NoTwinBefore, IsFirstTwin, IsTwinNumber, TwinSays, IsTwinIn, IsTwinOf}
 
 -- reduced forms of a claim of a sheet
 reduced_in : (q : Check) (x : Contents) (i : Claim) (r s : Reduced) → IsReducedIn q x i r → IsReducedIn q x i s → r ≡ s
-reduced_in Fine x i r s a b = a.2 ∙ ap shownForm (one_reduced_form (half_space (claim x i.0)) a.0 b.0 a.1 b.1) ∙ sym b.2
+reduced_in Fine x i r s a b = a.2 ∙ ap shown_form (one_reduced_form (half_space (claim x i.0)) a.0 b.0 a.1 b.1) ∙ sym b.2
 reduced_in (Refused q) x i r s a b = a ∙ sym b
 
 pub one_reduced : (y : Read Contents) (i : Claim) (r s : Reduced) → IsReducedOf y i r → IsReducedOf y i s → r ≡ s

@@ -13,19 +13,19 @@ use Rattle.twins.specs.declared.Twin.{Twin}
 use Rattle.twins.specs.declared.Twin.TheVariants as twins
 
 -- a reduced form as sixteen numbers, zero beyond place n; a refusal has zeros
-abbrev pub shownForm : HalfSpace → Reduced
-shownForm f = record { answer = Fine; coefficients = sixteen (pos 0) f.coefficients; constant = f.constant }
+abbrev pub shown_form : HalfSpace → Reduced
+shown_form f = record { answer = Fine; coefficients = sixteen (pos 0) f.coefficients; constant = f.constant }
 
-abbrev pub noForm : Check → Reduced
-noForm answer = record { answer = answer; coefficients = sixteen (pos 0) []; constant = pos 0 }
+abbrev pub no_form : Check → Reduced
+no_form answer = record { answer = answer; coefficients = sixteen (pos 0) []; constant = pos 0 }
 
 -- the sheet's refusal, then 11, then the reduced form of claim i
 abbrev pub IsReducedIn : Check → Contents → Claim → Reduced → Type 0
-IsReducedIn Fine x i r = (f : HalfSpace) × IsReduced (half_space (claim x i.0)) f × (r ≡ shownForm f)
-IsReducedIn (Refused q) x i r = r ≡ noForm (Refused q)
+IsReducedIn Fine x i r = (f : HalfSpace) × IsReduced (half_space (claim x i.0)) f × (r ≡ shown_form f)
+IsReducedIn (Refused q) x i r = r ≡ no_form (Refused q)
 
 abbrev pub IsReducedOf : Read Contents → Claim → Reduced → Type 0
-IsReducedOf (refused q) i r = r ≡ noForm (Refused q)
+IsReducedOf (refused q) i r = r ≡ no_form (Refused q)
 IsReducedOf (sound x) i r = IsReducedIn (claim_check (sound x) i) x i r
 
 -- none of the claims before claim j is a twin of claim i

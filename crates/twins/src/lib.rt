@@ -7,7 +7,7 @@ ghost use Rattle.format.specs.Contents.{Contents, half_space, claim};
 ghost use Rattle.format.specs.Reading.{reading};
 ghost use Rattle.known.specs.Known.{Known};
 ghost use Rattle.reduction.specs.Divisors.{space_of};
-ghost use Rattle.twins.specs.Answers.{noForm, IsReducedOf, IsTwinNumber, IsTwinOf};
+ghost use Rattle.twins.specs.Answers.{no_form, IsReducedOf, IsTwinNumber, IsTwinOf};
 
 use layout::behind_claims;
 use multiples::{is_multiple, pivot_of};
@@ -34,7 +34,7 @@ pub enum Twin {
 
 impl Reduced {
     fn refused(answer: Check) -> Reduced
-        ensures { result ≡ noForm answer }
+        ensures { result ≡ no_form answer }
     {
         Reduced {
             answer,

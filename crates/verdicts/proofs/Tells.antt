@@ -14,7 +14,7 @@ use Rattle.nets.proofs.Consequence.{nothing_reached}
 use Rattle.format.specs.Read.{Read, sound, refused}
 use Rattle.format.specs.Contents.{Contents, half_space, claim}
 use Rattle.format.specs.Reading.{reading}
-use Rattle.reader.specs.Answers.{countsOf}
+use Rattle.reader.specs.Answers.{counts_of}
 use Rattle.refusals.specs.declared.Check.{Check}
 use Rattle.refusals.specs.declared.Check.TheVariants.{Fine, Refused}
 use Rattle.judged.specs.declared.Answer.TheVariants as answers
@@ -46,7 +46,7 @@ proof_tells s i marks queue r j a = by (reading s) refl j
     by : (y : Read Contents) → reading s ≡ y → IsJudged y i marks queue r → (x : Contents) × (reading s ≡ sound x) × IsProof x.setting (half_space (claim x i.0)) × ((ts : List ℕ) (e : Marking) → Ends x.setting.net x.setting.start ts e → IsTarget x.setting.target e → ⊥)
     by (refused q) e j = absurd (refusal_is_none q r (answer_of_lem j) a)
     by (sound x) e j =
-        let p = so_checked (counted_check (countsOf x) i marks queue) x i r j a in
+        let p = so_checked (counted_check (counts_of x) i marks queue) x i r j a in
         (x, e, p, nothing_reached x.setting (half_space (claim x i.0)) p)
 
 -- and the other way round: a claim that is a proof, asked for where nothing is refused, is answered so
@@ -57,7 +57,7 @@ only_proof target_inside s = absurd s
 only_proof (broken t m) s = absurd s
 only_proof proof s = refl
 
-pub proof_given : (s : List ℕ) (i : Claim) (marks queue : ℕ) (r : Judged) (x : Contents) → IsJudged (reading s) i marks queue r → reading s ≡ sound x → counted_check (countsOf x) i marks queue ≡ Fine → IsProof x.setting (half_space (claim x i.0)) → r ≡ plain_judged answers.Proof
+pub proof_given : (s : List ℕ) (i : Claim) (marks queue : ℕ) (r : Judged) (x : Contents) → IsJudged (reading s) i marks queue r → reading s ≡ sound x → counted_check (counts_of x) i marks queue ≡ Fine → IsProof x.setting (half_space (claim x i.0)) → r ≡ plain_judged answers.Proof
 proof_given s i marks queue r x j e f p =
     let k : IsJudged (sound x) i marks queue r = subst (λ (y : Read Contents). IsJudged y i marks queue r) e j in
     let l : Judges x.setting (half_space (claim x i.0)) r = subst (λ (q : Check). IsJudgedIn q x i r) f k in
@@ -99,4 +99,4 @@ one_checked (Refused q) x i r p a b = same_so r p (a ∙ sym b)
 -- Two results for the same sheet, claim and areas.
 pub two_answers : (y : Read Contents) (i : Claim) (marks queue : ℕ) (r p : Judged) → IsJudged y i marks queue r → IsJudged y i marks queue p → SameButMarking r p
 two_answers (refused q) i marks queue r p a b = same_so r p (a ∙ sym b)
-two_answers (sound x) i marks queue r p a b = one_checked (counted_check (countsOf x) i marks queue) x i r p a b
+two_answers (sound x) i marks queue r p a b = one_checked (counted_check (counts_of x) i marks queue) x i r p a b

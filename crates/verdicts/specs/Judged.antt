@@ -5,7 +5,7 @@ use Rattle.refusals.specs.Refusals.{not_a_claim, small_area}
 use Rattle.terms.specs.declared.Claim.{Claim}
 use Rattle.format.specs.Read.{Read, sound, refused, choose}
 use Rattle.format.specs.Contents.{Contents, half_space, claim}
-use Rattle.reader.specs.Answers.{countsOf}
+use Rattle.reader.specs.Answers.{counts_of}
 use Rattle.reader.specs.declared.Counts.{Counts}
 use Rattle.refusals.specs.declared.Check.{Check}
 use Rattle.refusals.specs.declared.Check.TheVariants.{Fine, Refused}
@@ -22,7 +22,7 @@ counted_check k i marks queue =
 
 abbrev pub verdict_check : Read Contents → Claim → ℕ → ℕ → Check
 verdict_check (refused r) i marks queue = Refused r
-verdict_check (sound x) i marks queue = counted_check (countsOf x) i marks queue
+verdict_check (sound x) i marks queue = counted_check (counts_of x) i marks queue
 
 abbrev pub IsJudgedIn : Check → Contents → Claim → Judged → Type 0
 IsJudgedIn Fine x i r = Judges x.setting (half_space (claim x i.0)) r
@@ -30,4 +30,4 @@ IsJudgedIn (Refused q) x i r = r ≡ plain_judged (answers.Refused q)
 
 abbrev pub IsJudged : Read Contents → Claim → ℕ → ℕ → Judged → Type 0
 IsJudged (refused q) i marks queue r = r ≡ plain_judged (answers.Refused q)
-IsJudged (sound x) i marks queue r = IsJudgedIn (counted_check (countsOf x) i marks queue) x i r
+IsJudged (sound x) i marks queue r = IsJudgedIn (counted_check (counts_of x) i marks queue) x i r

@@ -8,7 +8,7 @@ use Rattle.refusals.specs.Refusals.{not_a_claim}
 use Rattle.format.specs.Read.{choose}
 use Rattle.format.specs.Reading.{reading}
 use Rattle.format.proofs.Places.{held}
-use Rattle.reader.specs.Answers.{checkOf}
+use Rattle.reader.specs.Answers.{check_of}
 use Rattle.refusals.specs.declared.Check.TheVariants.{Fine, Refused}
 use Rattle.claims.specs.Held.{claim_check}
 use Rattle.known.proofs.Taken.{sound_answer, refused_answer, c_is}
@@ -32,7 +32,7 @@ returns : tie.Need-returns
 returns c =
     let a = c.before.before.before.before.before.args in
     let e = refused_answer (reading a.sheet.now) (sym c.before.before.before.read.ensures ∙ c.before.enum_told.given.1) in
-    c.check.ensures ∙ ap checkOf c.before.enum_told.given.1 ∙ ap (λ y. claim_check y a.i) (sym e)
+    c.check.ensures ∙ ap check_of c.before.enum_told.given.1 ∙ ap (λ y. claim_check y a.i) (sym e)
 
 among-requires : tie.Need-among-requires
 among-requires c κs = search rules

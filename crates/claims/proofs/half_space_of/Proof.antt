@@ -15,7 +15,7 @@ use Rattle.refusals.specs.Refusals.{not_a_claim}
 use Rattle.nets.specs.HalfSpaces as spaces
 use Rattle.format.specs.Read.{choose}
 use Rattle.format.specs.Reading.{reading}
-use Rattle.reader.specs.Answers.{checkOf}
+use Rattle.reader.specs.Answers.{check_of}
 use Rattle.reader.specs.declared.Counts.{Counts}
 use Rattle.refusals.specs.declared.Check.TheVariants.{Fine, Refused}
 use Rattle.claims.specs.Held.{no_half_space, half_space_in, half_space_of}
@@ -46,7 +46,7 @@ returns : tie.Need-returns
 returns c =
     let a = c.before.before.before.before.before.before.args in
     let e = refused_answer (reading a.sheet.now) (sym c.before.before.before.before.read.ensures ∙ c.before.before.enum_told.given.1) in
-    c.refused.ensures ∙ ap no_half_space (c.before.check.ensures ∙ ap checkOf c.before.before.enum_told.given.1) ∙ ap (λ y. half_space_of y a.i) (sym e)
+    c.refused.ensures ∙ ap no_half_space (c.before.check.ensures ∙ ap check_of c.before.before.enum_told.given.1) ∙ ap (λ y. half_space_of y a.i) (sym e)
 
 among-requires : tie.Need-among-requires
 among-requires c κs = search rules

@@ -1,7 +1,7 @@
 -- `transitions_of` meets its contract: the sheet's refusal is passed on, and a sound sheet's transitions are as many as were read.
 use mathlib.Core.Path.{◌∙◌, sym, ap}
 use Rattle.format.specs.Reading.{reading}
-use Rattle.reader.specs.Answers.{checkOf}
+use Rattle.reader.specs.Answers.{check_of}
 use Rattle.reader.specs.declared.Counts.{Counts}
 use Rattle.known.proofs.Taken.{sound_answer, refused_answer}
 use Rattle.counts.specs.Counted.{no_count, some_count, how_many_transitions}
@@ -28,7 +28,7 @@ returns : tie.Need-returns
 returns c =
     let a = c.before.before.before.before.before.before.args in
     let e = refused_answer (reading a.sheet.now) (sym c.before.before.before.before.read.ensures ∙ c.before.before.enum_told.given.1) in
-    c.refused.ensures ∙ ap no_count (c.before.check.ensures ∙ ap checkOf c.before.before.enum_told.given.1) ∙ ap how_many_transitions (sym e)
+    c.refused.ensures ∙ ap no_count (c.before.check.ensures ∙ ap check_of c.before.before.enum_told.given.1) ∙ ap how_many_transitions (sym e)
 
 returns-2 : tie.Need-returns-2
 returns-2 c =

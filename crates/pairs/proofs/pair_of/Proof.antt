@@ -10,7 +10,7 @@ use Rattle.nets.specs.HalfSpaces as spaces
 use Rattle.format.specs.Read.{Read}
 use Rattle.format.specs.Contents.{Contents, half_space, claim}
 use Rattle.format.specs.Reading.{reading}
-use Rattle.reader.specs.Answers.{IsMalformed, countsOf}
+use Rattle.reader.specs.Answers.{IsMalformed, counts_of}
 use Rattle.reader.specs.declared.Counts.{Counts}
 use Rattle.refusals.specs.declared.Check.{Check}
 use Rattle.refusals.specs.declared.Check.TheVariants.{Fine, Refused}
@@ -64,7 +64,7 @@ returns-2 c =
     let m = length a.marks.now in
     let l = length a.queue.now in
     let x = sound_answer (reading a.sheet.now) (sym c.before.before.before.before.before.before.before.before.read.ensures ∙ c.before.before.before.before.before.before.answer.given.1) in
-    let ck : counted_check (countsOf x.0) a.i a.t m l ≡ Refused c.before.before.check.given.0.0 = ap (λ (k : Counts). counted_check k a.i a.t m l) x.2 ∙ sym c.before.before.before.before.checked.ensures ∙ c.before.before.check.given.1 in
+    let ck : counted_check (counts_of x.0) a.i a.t m l ≡ Refused c.before.before.check.given.0.0 = ap (λ (k : Counts). counted_check k a.i a.t m l) x.2 ∙ sym c.before.before.before.before.checked.ensures ∙ c.before.before.check.given.1 in
     let after : (old : List ℕ) → area_after (Refused c.before.before.check.given.0.0) old ≡ area_after (pair_check (reading a.sheet.now) a.i a.t m l) old =
     λ old. ap (λ (q : Check). area_after q old) (sym ck) ∙ ap (λ (y : Read Contents). area_after (pair_check y a.i a.t m l) old) (sym x.1) in
     (subst (λ (y : Read Contents). IsPair y a.i a.t m l c.plain2.result) (sym x.1) (subst (λ (q : Check). IsPairIn q x.0 a.i a.t c.plain2.result) (sym ck) c.plain2.ensures), (after a.marks.now, after a.queue.now))
@@ -96,7 +96,7 @@ returns-3 c =
     let m = length a.marks.now in
     let l = length a.queue.now in
     let x = sound_answer (reading a.sheet.now) (sym c.before.before.before.before.before.before.before.before.before.before.before.before.before.before.before.before.read.ensures ∙ c.before.before.before.before.before.before.before.before.before.before.before.before.before.before.answer.given.1) in
-    let ck : counted_check (countsOf x.0) a.i a.t m l ≡ Fine = ap (λ (k : Counts). counted_check k a.i a.t m l) x.2 ∙ sym c.before.before.before.before.before.before.before.before.before.before.before.before.checked.ensures ∙ c.before.before.before.before.before.before.before.before.before.before.enum-told2.given.1 in
+    let ck : counted_check (counts_of x.0) a.i a.t m l ≡ Fine = ap (λ (k : Counts). counted_check k a.i a.t m l) x.2 ∙ sym c.before.before.before.before.before.before.before.before.before.before.before.before.checked.ensures ∙ c.before.before.before.before.before.before.before.before.before.before.enum-told2.given.1 in
     let after : (old : List ℕ) → area_after (Fine) old ≡ area_after (pair_check (reading a.sheet.now) a.i a.t m l) old =
     λ old. ap (λ (q : Check). area_after q old) (sym ck) ∙ ap (λ (y : Read Contents). area_after (pair_check y a.i a.t m l) old) (sym x.1) in
     let k = c.before.before.before.before.before.before.before.ask in
@@ -117,7 +117,7 @@ returns-4 c =
     let m = length a.marks.now in
     let l = length a.queue.now in
     let x = sound_answer (reading a.sheet.now) (sym c.before.before.before.before.before.before.before.before.before.before.before.before.before.before.before.before.read.ensures ∙ c.before.before.before.before.before.before.before.before.before.before.before.before.before.before.answer.given.1) in
-    let ck : counted_check (countsOf x.0) a.i a.t m l ≡ Fine = ap (λ (k : Counts). counted_check k a.i a.t m l) x.2 ∙ sym c.before.before.before.before.before.before.before.before.before.before.before.before.checked.ensures ∙ c.before.before.before.before.before.before.before.before.before.before.enum-told2.given.1 in
+    let ck : counted_check (counts_of x.0) a.i a.t m l ≡ Fine = ap (λ (k : Counts). counted_check k a.i a.t m l) x.2 ∙ sym c.before.before.before.before.before.before.before.before.before.before.before.before.checked.ensures ∙ c.before.before.before.before.before.before.before.before.before.before.enum-told2.given.1 in
     let after : (old : List ℕ) → area_after (Fine) old ≡ area_after (pair_check (reading a.sheet.now) a.i a.t m l) old =
     λ old. ap (λ (q : Check). area_after q old) (sym ck) ∙ ap (λ (y : Read Contents). area_after (pair_check y a.i a.t m l) old) (sym x.1) in
     let k = c.before.before.before.before.before.before.before.ask in

@@ -6,7 +6,7 @@ use Prim.Native.Nat.{ℕ}
 use Rattle.format.specs.Reading.{reading}
 use Rattle.format.proofs.Places.{held}
 use Rattle.nets.specs.HalfSpaces.{sixteen}
-use Rattle.reader.specs.Answers.{checkOf}
+use Rattle.reader.specs.Answers.{check_of}
 use Rattle.refusals.specs.declared.Check.TheVariants.{Fine}
 use Rattle.sheet.specs.Held.{no_start, start_of}
 use Rattle.sheet.specs.declared.Start.{Start}
@@ -31,7 +31,7 @@ returns : tie.Need-returns
 returns c =
     let a = c.before.before.before.before.before.args in
     let e = refused_answer (reading a.sheet.now) (sym c.before.before.before.read.ensures ∙ c.before.enum_told.given.1) in
-    ap no_start (c.check.ensures ∙ ap checkOf c.before.enum_told.given.1) ∙ ap start_of (sym e)
+    ap no_start (c.check.ensures ∙ ap check_of c.before.enum_told.given.1) ∙ ap start_of (sym e)
 
 behind-transitions-requires : tie.Need-behind-transitions-requires
 behind-transitions-requires c κs =

@@ -13,7 +13,7 @@ use Rattle.amounts.specs.declared.Kind.{Kind}
 use Rattle.amounts.specs.declared.Kind.TheVariants.{Exact, AtOrAbove}
 use Rattle.nets.specs.HalfSpaces.{sixteen}
 use Rattle.nets.specs.Verdicts as verdicts
-use Rattle.reader.specs.Answers.{checkOf}
+use Rattle.reader.specs.Answers.{check_of}
 use Rattle.refusals.specs.declared.Check.TheVariants.{Fine}
 use Rattle.sheet.specs.Held.{kind_is, no_target, target_of}
 use Rattle.sheet.specs.declared.Target.{Target}
@@ -45,7 +45,7 @@ returns : tie.Need-returns
 returns c =
     let a = c.before.before.before.before.before.args in
     let e = refused_answer (reading a.sheet.now) (sym c.before.before.before.read.ensures ∙ c.before.enum_told.given.1) in
-    ap no_target (c.check.ensures ∙ ap checkOf c.before.enum_told.given.1) ∙ ap target_of (sym e)
+    ap no_target (c.check.ensures ∙ ap check_of c.before.enum_told.given.1) ∙ ap target_of (sym e)
 
 target-from-requires : tie.Need-target-from-requires
 target-from-requires c κs =

@@ -13,7 +13,7 @@ use Rattle.format.proofs.Places.{held}
 use Rattle.format.specs.Read.{choose}
 use Rattle.nets.specs.Nets as nets
 use Rattle.nets.specs.HalfSpaces.{sixteen}
-use Rattle.reader.specs.Answers.{checkOf}
+use Rattle.reader.specs.Answers.{check_of}
 use Rattle.refusals.specs.declared.Check.TheVariants.{Fine, Refused}
 use Rattle.sheet.specs.Held.{no_weights, weights_in, weights_of}
 use Rattle.sheet.specs.declared.Weights.{Weights}
@@ -41,7 +41,7 @@ returns : tie.Need-returns
 returns c =
     let a = c.before.before.before.before.before.before.args in
     let e = refused_answer (reading a.sheet.now) (sym c.before.before.before.before.read.ensures ∙ c.before.before.enum_told.given.1) in
-    c.refused.ensures ∙ ap no_weights (c.before.check.ensures ∙ ap checkOf c.before.before.enum_told.given.1) ∙ ap (λ y. weights_of y a.t) (sym e)
+    c.refused.ensures ∙ ap no_weights (c.before.check.ensures ∙ ap check_of c.before.before.enum_told.given.1) ∙ ap (λ y. weights_of y a.t) (sym e)
 
 among-requires : tie.Need-among-requires
 among-requires c κs = search rules

@@ -5,7 +5,7 @@ use Rattle.refusals.specs.declared.Check.{Check}
 use Rattle.refusals.specs.declared.Refusal.{Refusal}
 use Rattle.refusals.specs.declared.Check.TheVariants.{Refused}
 use Rattle.format.specs.Reading.{reading}
-use Rattle.reader.specs.Answers.{checkOf}
+use Rattle.reader.specs.Answers.{check_of}
 use Rattle.known.proofs.Taken.{sound_answer, refused_answer}
 use Rattle.traces.specs.Traces.{traced, list_of}
 use Rattle.traces.proofs.Order.{long_refused, short_fired}
@@ -29,7 +29,7 @@ returns : tie.Need-returns
 returns c =
     let a = c.before.before.before.before.before.before.args in
     let e = refused_answer (reading a.sheet.now) (sym c.before.before.before.read.ensures ∙ c.before.enum_told.given.1) in
-    ap (λ (q : Check). traced 0 q a.m) (c.check.ensures ∙ ap checkOf c.before.enum_told.given.1) ∙ ap (λ y. list_of y a.list.now a.m) (sym e)
+    ap (λ (q : Check). traced 0 q a.m) (c.check.ensures ∙ ap check_of c.before.enum_told.given.1) ∙ ap (λ y. list_of y a.list.now a.m) (sym e)
 
 long-list-requires : tie.Need-long-list-requires
 long-list-requires c κs = search rules

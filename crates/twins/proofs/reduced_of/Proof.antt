@@ -11,7 +11,7 @@ use Rattle.format.specs.Read.{Read, sound, choose}
 use Rattle.format.specs.Contents.{Contents}
 use Rattle.format.specs.Reading.{reading}
 use Rattle.format.proofs.Places.{held}
-use Rattle.reader.specs.Answers.{checkOf}
+use Rattle.reader.specs.Answers.{check_of}
 use Rattle.refusals.specs.declared.Check.{Check}
 use Rattle.refusals.specs.declared.Check.TheVariants.{Fine, Refused}
 use Rattle.claims.specs.Held.{claim_check}
@@ -23,7 +23,7 @@ use mir.Val.{SFits, to_z, of_z}
 use mir.Facts.{to_z-of_z}
 use Rattle.twins.specs.declared.Reduced.{Reduced}
 use Rattle.reduction.specs.Divisors.{space_of}
-use Rattle.twins.specs.Answers.{noForm, IsReducedIn, IsReducedOf}
+use Rattle.twins.specs.Answers.{no_form, IsReducedIn, IsReducedOf}
 use borrow.Author.Rules.{rules}
 use Rattle.twins.proofs.reduced_of.Statement.{statement}
 use Rattle.twins.proofs.reduced_of.Tie as tie
@@ -47,7 +47,7 @@ returns : tie.Need-returns
 returns c =
     let a = c.before.before.before.before.before.before.args in
     let e = refused_answer (reading a.sheet.now) (sym c.before.before.before.before.read.ensures ∙ c.before.before.enum_told.given.1) in
-    subst (λ (y : Read Contents). IsReducedOf y a.i c.refused.result) (sym e) (c.refused.ensures ∙ ap noForm (c.before.check.ensures ∙ ap checkOf c.before.before.enum_told.given.1))
+    subst (λ (y : Read Contents). IsReducedOf y a.i c.refused.result) (sym e) (c.refused.ensures ∙ ap no_form (c.before.check.ensures ∙ ap check_of c.before.before.enum_told.given.1))
 
 among-requires : tie.Need-among-requires
 among-requires c κs = search rules
@@ -66,7 +66,7 @@ returns-2 c =
     let h = held a.sheet.now x.0 x.1 in
     let is : among a.i.0 (length x.0.claims) ≡ false = ap (among a.i.0) (sym (c_is a.sheet.now x.0 k h x.2)) ∙ sym c.before.before.before.among.ensures ∙ not-true c.before.before.before.among.result c.before.before.if1.true in
     let ck : claim_check (sound x.0) a.i ≡ Refused (not_a_claim a.i) = ap (λ (t : Bool). choose t Fine (Refused (not_a_claim a.i))) is in
-    subst (λ (y : Read Contents). IsReducedOf y a.i c.refused2.result) (sym x.1) (subst (λ (q : Check). IsReducedIn q x.0 a.i c.refused2.result) (sym ck) (c.refused2.ensures ∙ ap (λ (q : Refusal). noForm (Refused q)) c.before.no_claim.ensures))
+    subst (λ (y : Read Contents). IsReducedOf y a.i c.refused2.result) (sym x.1) (subst (λ (q : Check). IsReducedIn q x.0 a.i c.refused2.result) (sym ck) (c.refused2.ensures ∙ ap (λ (q : Refusal). no_form (Refused q)) c.before.no_claim.ensures))
 
 form-at-requires : tie.Need-form-at-requires
 form-at-requires c κs =

@@ -6,7 +6,7 @@ use lib.ListN.{length}
 use Rattle.format.specs.Read.{Read}
 use Rattle.format.specs.Contents.{Contents, claim}
 use Rattle.format.specs.Reading.{reading}
-use Rattle.reader.specs.Answers.{IsMalformed, countsOf}
+use Rattle.reader.specs.Answers.{IsMalformed, counts_of}
 use Rattle.reader.specs.declared.Counts.{Counts}
 use Rattle.refusals.specs.declared.Check.{Check}
 use Rattle.refusals.specs.declared.Check.TheVariants.{Fine, Refused}
@@ -58,7 +58,7 @@ returns-2 c =
     let m = length a.marks.now in
     let l = length a.queue.now in
     let x = sound_answer (reading a.sheet.now) (sym c.before.before.before.before.before.before.before.before.read.ensures ∙ c.before.before.before.before.before.before.answer.given.1) in
-    let ck : counted_check (countsOf x.0) a.i m l ≡ Refused c.before.before.check.given.0.0 = ap (λ (k : Counts). counted_check k a.i m l) x.2 ∙ sym c.before.before.before.before.checked.ensures ∙ c.before.before.check.given.1 in
+    let ck : counted_check (counts_of x.0) a.i m l ≡ Refused c.before.before.check.given.0.0 = ap (λ (k : Counts). counted_check k a.i m l) x.2 ∙ sym c.before.before.before.before.checked.ensures ∙ c.before.before.check.given.1 in
     let after : (old : List ℕ) → area_after (Refused c.before.before.check.given.0.0) old ≡ area_after (verdict_check (reading a.sheet.now) a.i m l) old =
     λ old. ap (λ (q : Check). area_after q old) (sym ck) ∙ ap (λ (y : Read Contents). area_after (verdict_check y a.i m l) old) (sym x.1) in
     (subst (λ (y : Read Contents). IsJudged y a.i m l c.plain2.result) (sym x.1) (subst (λ (q : Check). IsJudgedIn q x.0 a.i c.plain2.result) (sym ck) c.plain2.ensures), (after a.marks.now, after a.queue.now))
@@ -87,7 +87,7 @@ returns-3 c =
     let m = length a.marks.now in
     let l = length a.queue.now in
     let x = sound_answer (reading a.sheet.now) (sym c.before.before.before.before.before.before.before.before.before.before.before.before.before.read.ensures ∙ c.before.before.before.before.before.before.before.before.before.before.before.answer.given.1) in
-    let ck : counted_check (countsOf x.0) a.i m l ≡ Fine = ap (λ (k : Counts). counted_check k a.i m l) x.2 ∙ sym c.before.before.before.before.before.before.before.before.before.checked.ensures ∙ c.before.before.before.before.before.before.before.enum-told2.given.1 in
+    let ck : counted_check (counts_of x.0) a.i m l ≡ Fine = ap (λ (k : Counts). counted_check k a.i m l) x.2 ∙ sym c.before.before.before.before.before.before.before.before.before.checked.ensures ∙ c.before.before.before.before.before.before.before.enum-told2.given.1 in
     let after : (old : List ℕ) → area_after Fine old ≡ area_after (verdict_check (reading a.sheet.now) a.i m l) old =
     λ old. ap (λ (q : Check). area_after q old) (sym ck) ∙ ap (λ (y : Read Contents). area_after (verdict_check y a.i m l) old) (sym x.1) in
     let k = c.before.before.before.before.settled in

@@ -1,7 +1,7 @@
 -- `step_from` meets its contract: the sheet's refusal is passed on, and a sheet that was read is stepped on.
 use mathlib.Core.Path.{◌∙◌, sym, ap}
 use Rattle.format.specs.Reading.{reading}
-use Rattle.reader.specs.Answers.{checkOf}
+use Rattle.reader.specs.Answers.{check_of}
 use Rattle.refusals.specs.declared.Check.{Check}
 use Rattle.known.proofs.Taken.{sound_answer, refused_answer}
 use Rattle.walk.specs.Walk.{step_of}
@@ -26,7 +26,7 @@ returns : tie.Need-returns
 returns c =
     let a = c.before.before.before.before.before.args in
     let e = refused_answer (reading a.sheet.now) (sym c.before.before.before.read.ensures ∙ c.before.enum_told.given.1) in
-    ap (λ (q : Check). answered q a.m) (c.check.ensures ∙ ap checkOf c.before.enum_told.given.1) ∙ ap (λ y. step_of y a.t a.m) (sym e)
+    ap (λ (q : Check). answered q a.m) (c.check.ensures ∙ ap check_of c.before.enum_told.given.1) ∙ ap (λ y. step_of y a.t a.m) (sym e)
 
 step-in-requires : tie.Need-step-in-requires
 step-in-requires c κs =

@@ -6,7 +6,7 @@ use lib.ListN.{length}
 use borrow.Author.Tests.{le-leb, lt-leb}
 use Rattle.format.specs.Reading.{size_of, claim_due, claims_at, claims_of, claims_from, claim_size}
 use Rattle.format.proofs.Sound.{due_sound}
-use Rattle.reader.specs.Answers.{countedOf}
+use Rattle.reader.specs.Answers.{counted_of}
 use Rattle.format.proofs.Checks.{fine, turned}
 use Rattle.reader.proofs.Turns.{counted_from, from_none, claims_step, claims_stop, claims_done}
 use borrow.Author.Rules.{rules}
@@ -14,7 +14,7 @@ use Rattle.reader.proofs.runs.claims.Statement.{statement}
 use Rattle.reader.proofs.runs.claims.Tie as tie
 
 abbrev invariant-loop : tie.invariant-loop
-invariant-loop s n t at₀ more₀ at more = (at ≤ length s) × (more ≤ 32) × (countedOf (size_of n t) (claims_of s (size_of n t)) ≡ counted_from (32 - more) (size_of n t) (claims_at s n at more))
+invariant-loop s n t at₀ more₀ at more = (at ≤ length s) × (more ≤ 32) × (counted_of (size_of n t) (claims_of s (size_of n t)) ≡ counted_from (32 - more) (size_of n t) (claims_at s n at more))
 
 abbrev decreases-loop : tie.decreases-loop
 decreases-loop s n t at₀ more₀ at more = length s - at
