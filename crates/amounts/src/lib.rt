@@ -1,4 +1,6 @@
 // What stands in a sheet's fields, with its limits: weights, kinds, coefficients and constants.
+#![tactic(auto)]
+
 ghost use Rattle.std.specs.Prelude.{◌≡◌};
 ghost use Rattle.signed.specs.Twos.{twos8, twos16};
 ghost use Rattle.terms.specs.Limits.{weight_fits, coefficient_fits, constant_fits};

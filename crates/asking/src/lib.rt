@@ -1,4 +1,6 @@
 // A claim and a transition of a sheet that was read: whether some marking inside leads outside, asked of crate `crossing`.
+#![tactic(auto)]
+
 ghost use Rattle.std.specs.Prelude.{◌≡◌, ◌≤◌, length};
 ghost use Rattle.lent.specs.Wiped.{Wiped};
 ghost use Rattle.nets.specs.Nets.{transition};

@@ -1,4 +1,6 @@
 // The claims of a sheet: document 01, "What the sheet holds" and "Half spaces and verdicts". Each call reads the whole sheet first and passes its refusal on.
+#![tactic(auto)]
+
 ghost use Rattle.std.specs.Prelude.{◌≡◌};
 ghost use Rattle.format.specs.Reading.{reading};
 ghost use Rattle.claims.specs.Held.{claim_check, half_space_of, no_half_space};

@@ -1,4 +1,6 @@
 // How many places, transitions and claims a sheet has: document 01, "What the sheet holds". Each call reads the whole sheet first and passes its refusal on.
+#![tactic(auto)]
+
 ghost use Rattle.std.specs.Prelude.{◌≡◌};
 ghost use Rattle.format.specs.Reading.{reading};
 ghost use Rattle.counts.specs.Counted.{no_count, how_many_places, how_many_transitions, how_many_claims};

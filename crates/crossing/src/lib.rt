@@ -1,4 +1,6 @@
 // A half space and a transition, as numbers: does some marking inside lead outside?
+#![tactic(auto)]
+
 ghost use Rattle.std.specs.Prelude.{◌≡◌, length, take};
 ghost use Rattle.nets.specs.Window.{low_end, high_end};
 ghost use Rattle.format.specs.Reading.{transition_in};

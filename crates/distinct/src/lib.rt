@@ -1,5 +1,7 @@
 // The row that is searched: each coefficient once and none of 0, with a place where it stands. A step by an equal coefficient leads
 // nowhere new, and one by 0 nowhere at all.
+#![tactic(auto)]
+
 ghost use Rattle.std.specs.Prelude.{◌≡◌, ◌+◌, ◌<◌, ◌≤◌, length, replicate};
 ghost use Rattle.sums.specs.Sum.{total};
 ghost use Rattle.distinct.specs.Row.{Known, Kept, Inside, Spread};

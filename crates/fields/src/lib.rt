@@ -1,4 +1,6 @@
 // The fields of a record, of one kind each, within their limits.
+#![tactic(auto)]
+
 ghost use Rattle.std.specs.Prelude.{◌≡◌, map, ◌+◌, ◌≤◌, length};
 ghost use Rattle.signed.specs.Twos.{twos8};
 ghost use Rattle.terms.specs.Limits.{weight_fits, coefficient_fits, constant_fits};

@@ -1,4 +1,6 @@
 // What a firing does to each place. The first n of sixteen numbers are the net's places.
+#![tactic(auto)]
+
 ghost use Rattle.std.specs.Prelude.{◌≡◌, ◌≤◌, take};
 ghost use Rattle.nets.specs.Nets.{fire};
 ghost use Rattle.refusals.specs.declared.Check.TheVariants.{Fine};

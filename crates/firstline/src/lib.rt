@@ -1,4 +1,6 @@
 // The first line of what is printed: the counts, or a refusal.
+#![tactic(auto)]
+
 ghost use Rattle.std.specs.Prelude.{◌+◌, ◌≤◌, length};
 ghost use Rattle.text.specs.Bytes.{Wrote};
 ghost use Rattle.firstline.specs.FirstLine.{counts_line, refused_line, refusal_line};

@@ -1,1 +1,2 @@
 // What the bytes of a sheet mean stands in specs/, and what follows from it in proofs/.
+#![tactic(auto)]

@@ -1,4 +1,6 @@
 // NP, the record that opens a sheet: how many places and transitions there are.
+#![tactic(auto)]
+
 ghost use Rattle.std.specs.Prelude.{◌≡◌};
 ghost use Rattle.format.specs.Reading.{head_of};
 ghost use Rattle.header.specs.Sized.{sized_of};
@@ -8,7 +10,7 @@ use refusals::{Check, Refusal};
 use terms::{Place, Transition, among};
 
 // The numbers of places and transitions.
-#[derive(Drop)]
+#[derive(Clone, Copy)]
 pub struct Extent {
     pub places: usize,
     pub transitions: usize,

@@ -1,4 +1,6 @@
 // Do the start, or some target marking, lie inside?
+#![tactic(auto)]
+
 ghost use Rattle.std.specs.Prelude.{◌≡◌, ◌+◌, ◌*◌, ◌≤◌, length, take};
 ghost use Rattle.nets.specs.HalfSpaces.{Inside};
 ghost use Rattle.nets.specs.Verdicts.{Setting, TargetInside};

@@ -1,12 +1,14 @@
 // judge: reads one sheet from standard input and prints its listing (document 01, "The listing").
+#![tactic(auto)]
+
 ghost use Rattle.std.specs.Prelude.{◌≡◌, List, ℕ, ◌≤◌, length, take};
 ghost use Rattle.format.specs.Reading.{reading};
 ghost use Rattle.page.specs.Page.{IsPage};
 ghost use Rattle.judge.specs.Input.{Within};
 
-use libc::{STDERR_FILENO, STDIN_FILENO, STDOUT_FILENO};
 use page::page;
-use terms::Area;
+use std::io::{self, Read, Write};
+use terms::{Area, Text};
 
 // How much was taken in, at the start of the room that was lent.
 #[derive(Drop)]
@@ -16,16 +18,15 @@ enum Input {
 }
 
 // Takes standard input in, until it ends or the room is full, by reads that may be short.
-fn take_in(room: &mut [u8]) -> Input
+fn take_in<R: Read>(reader: &mut R, room: &mut [u8]) -> Input
     ensures { Within result (length room.new) }
 {
     let mut done = 0;
     while done < room.len() {
-        let got = libc::read(STDIN_FILENO, &mut room[done..]);
-        if got < 0 {
-            return Input::Failed;
-        }
-        let more = io::count(got, &room[done..]);
+        let more = match reader.read(&mut room[done..]) {
+            Ok(more) => more,
+            Err(_) => return Input::Failed,
+        };
         if more == 0 {
             return Input::Kept(done);
         }
@@ -44,24 +45,23 @@ fn page_of(kept: &[u8], marks: &mut [u8], queue: &mut [u16], text: &mut [u8]) ->
     page(kept, marks, queue, text)
 }
 
-fn show(kept: &[u8])
+fn show<R: Print>(rt: &R, kept: &[u8])
     requires { length kept.now ≤ 4096 }
 {
     let mut marks = [0u8; Area::SIZE];
     let mut queue = [0u16; Area::SIZE];
-    let mut text = io::buffer();
+    let mut text = [0u8; Text::SIZE];
     let n = page_of(kept, &mut marks, &mut queue, &mut text);
-    io::write_all(STDOUT_FILENO, &text[..n]);
+    let _ = io::writer(rt).write_all(&text[..n]);
 }
 
-fn main() {
-    let mut room = io::buffer();
-    match take_in(&mut room) {
-        Input::Kept(n) => show(&room[..n]),
+fn main(rt: HostRuntime) {
+    let mut room = [0u8; Text::SIZE];
+    match take_in(&mut rt.reader(), &mut room) {
+        Input::Kept(n) => show(&rt, &room[..n]),
         Input::Failed => {
-            io::write_all(
-                STDERR_FILENO,
-                b"judge: standard input could not be read, so nothing was judged\n",
+            let _ = eprintln!(&rt;
+                "judge: standard input could not be read, so nothing was judged"
             );
         }
     }

@@ -1,4 +1,6 @@
 // The answer of a call that judges a half space, and what it says.
+#![tactic(auto)]
+
 ghost use Rattle.std.specs.Prelude.{◌≡◌};
 ghost use Rattle.judged.specs.Judges.{plain_judged};
 
@@ -6,7 +8,7 @@ use refusals::Refusal;
 use terms::{Place, Transition};
 
 // The four verdicts in their order, or a refusal. Broken names the lowest transition that breaks the claim.
-#[derive(Drop)]
+#[derive(Clone, Copy)]
 pub enum Answer {
     StartOutside,
     TargetInside,

@@ -1,4 +1,6 @@
 // The verdict on a half space, over numbers, and on a claim of a sheet that was read.
+#![tactic(auto)]
+
 ghost use Rattle.std.specs.Prelude.{◌≡◌, ◌≤◌, length, take};
 ghost use Rattle.format.specs.Read.{sound};
 ghost use Rattle.format.specs.Contents.{Contents, half_space, claim};

@@ -1,5 +1,7 @@
 // The library for programs in other languages: every call over numbers and slices. `include/krunvedo.h` declares it for C.
 // Each export asks the library and puts its answer into numbers, as `numbers/specs/Numbers.antt` sets them out.
+#![tactic(auto)]
+
 ghost use Rattle.std.specs.Prelude.{◌≡◌, length};
 ghost use Rattle.format.specs.Reading.{reading};
 ghost use Rattle.reader.specs.Answers.{answer_of};
@@ -195,8 +197,8 @@ pub extern "C" fn krunvedo_begin(sheet: &[u8]) -> Tokens
 // The tokens are lent, and moved on.
 #[unsafe(no_mangle)]
 pub extern "C" fn krunvedo_step(tokens: &mut [u16; Place::MOST], sheet: &[u8], t: usize) -> Refused
-    ensures value { result ≡ check_is (step_of (reading sheet.now) (record { 0 = t }) (record { tokens = tokens.entry.now })).answer }
-    ensures tokens_value { tokens.exit.now ≡ (step_of (reading sheet.now) (record { 0 = t }) (record { tokens = tokens.entry.now })).marking.tokens }
+    ensures value { result ≡ check_is (step_of (reading sheet.now) (record { 0 = t }) (record { tokens = tokens.old })).answer }
+    ensures tokens_value { tokens.new ≡ (step_of (reading sheet.now) (record { 0 = t }) (record { tokens = tokens.old })).marking.tokens }
 {
     let held = *tokens;
     let s = walk::step_from(Marking { tokens: held }, sheet, Transition(t));
@@ -214,8 +216,8 @@ pub extern "C" fn krunvedo_fire_list(
     sheet: &[u8],
     list: &[usize],
 ) -> Fired
-    ensures value { result ≡ traced_is (list_of (reading sheet.now) list.now (record { tokens = tokens.entry.now })) }
-    ensures tokens_value { tokens.exit.now ≡ (list_of (reading sheet.now) list.now (record { tokens = tokens.entry.now })).marking.tokens }
+    ensures value { result ≡ traced_is (list_of (reading sheet.now) list.now (record { tokens = tokens.old })) }
+    ensures tokens_value { tokens.new ≡ (list_of (reading sheet.now) list.now (record { tokens = tokens.old })).marking.tokens }
 {
     let before = *tokens;
     let traced = traces::fire_list(Marking { tokens: before }, sheet, list);

@@ -1,4 +1,6 @@
 // Where the records stand, once the numbers of places and transitions are known.
+#![tactic(auto)]
+
 ghost use Rattle.std.specs.Prelude.{◌≡◌, ◌+◌, ◌*◌, ◌≤◌};
 ghost use Rattle.format.specs.Reading.{size_of, transitions_from, transition_size, target_from, claims_from, claim_size};
 

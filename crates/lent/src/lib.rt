@@ -1,4 +1,6 @@
 // The areas that a call borrows are cleared.
+#![tactic(auto)]
+
 ghost use Rattle.std.specs.Prelude.{◌≡◌, ◌≤◌, length, replicate};
 ghost use Rattle.lent.specs.Wiped.{Wiped};
 

@@ -1,4 +1,6 @@
 // The line of a claim.
+#![tactic(auto)]
+
 ghost use Rattle.std.specs.Prelude.{◌+◌, ◌≤◌, ◌<◌, length, take};
 ghost use Rattle.text.specs.Bytes.{Wrote};
 ghost use Rattle.lines.specs.Lines.{answer_text, answer_line, Brief};

@@ -1,4 +1,6 @@
 // What every record opens with: its mark, and its length.
+#![tactic(auto)]
+
 ghost use Rattle.std.specs.Prelude.{◌≡◌, ◌≤◌, length};
 ghost use Rattle.format.specs.Checked.{checked};
 ghost use Rattle.format.specs.Reading.{marked_at, whole_at, opened_at};

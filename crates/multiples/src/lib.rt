@@ -1,4 +1,6 @@
 // Is a claim of the sheet a whole number of times a reduced form? No divisor is searched for: the number shows at one place.
+#![tactic(auto)]
+
 ghost use Rattle.std.specs.Prelude.{◌≡◌, map, ◌+◌, ◌≤◌, ℤ, pos, nat_abs, ◌*ℤ◌, length, take};
 ghost use Rattle.signed.specs.Twos.{twos8};
 ghost use Rattle.format.specs.Reading.{bytes, claim_in};
@@ -11,7 +13,7 @@ use reduction::euclid::wide;
 use terms::{Place, size};
 
 // A place of a form where it isn't zero, counted from 0 with the constant at n, and the size of the number there.
-#[derive(Drop)]
+#[derive(Clone, Copy)]
 pub struct Pivot {
     pub place: usize,
     pub size: u32,

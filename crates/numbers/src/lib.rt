@@ -1,4 +1,6 @@
 // Answers as C takes them: numbers and rows of numbers, laid out as C lays them out. An enum's case is a number here.
+#![tactic(auto)]
+
 ghost use Rattle.std.specs.Prelude.{◌≡◌};
 ghost use Rattle.numbers.specs.Numbers.{refusal_is, check_is, reading_is, kind_is, twin_is, pair_number, pair_refusal, listed_is, verdict_number, verdict_refusal, verdict_transition};
 

@@ -1,4 +1,6 @@
 // The page: what `judge` prints of any sheet, sound or not.
+#![tactic(auto)]
+
 ghost use Rattle.std.specs.Prelude.{◌≡◌, ◌≤◌, length, take};
 ghost use Rattle.format.specs.Reading.{reading};
 ghost use Rattle.pairs.specs.Pairs.{area_after};

@@ -1,4 +1,6 @@
 // One claim, one transition: kept or broken, exactly. Document 01, "Half spaces and verdicts".
+#![tactic(auto)]
+
 ghost use Rattle.std.specs.Prelude.{◌≡◌, length};
 ghost use Rattle.format.specs.Reading.{reading};
 ghost use Rattle.pairs.specs.Pairs.{IsPair, plain_pair, counted_check, pair_check, area_after};
@@ -8,7 +10,7 @@ use reader::{Counts, Reading, read};
 use refusals::{Check, Refusal};
 use terms::{Area, Claim, Place, Transition, among};
 
-#[derive(Drop)]
+#[derive(Clone, Copy)]
 pub enum Answer {
     Kept,
     Broken,

@@ -1,4 +1,6 @@
 // What the line of a claim is made of beside its verdict: tokens, and a twin.
+#![tactic(auto)]
+
 ghost use Rattle.std.specs.Prelude.{◌++◌, ◌+◌, ◌≤◌, ◌<◌, length, take};
 ghost use Rattle.text.specs.Bytes.{Wrote, chars, decimal};
 ghost use Rattle.phrases.specs.Phrases.{tokens_text, twin_text};

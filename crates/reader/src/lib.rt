@@ -1,4 +1,6 @@
 // The reader of sheets: document 01, "What the sheet holds" and "Numbers that say no".
+#![tactic(auto)]
+
 ghost use Rattle.std.specs.Prelude.{◌≡◌};
 ghost use Rattle.format.specs.Reading.{reading};
 ghost use Rattle.reader.specs.Answers.{check_of, IsMalformed, answer_of};
@@ -11,7 +13,7 @@ use header::Measured;
 use refusals::{Check, Refusal};
 use runs::claims;
 
-#[derive(Drop)]
+#[derive(Clone, Copy)]
 pub struct Counts {
     pub places: usize,
     pub transitions: usize,

@@ -1,4 +1,6 @@
 // One record of each kind but NP, its fields in order: document 01, "What the sheet holds".
+#![tactic(auto)]
+
 ghost use Rattle.std.specs.Prelude.{◌≡◌, ◌≤◌, length};
 ghost use Rattle.format.specs.Reading.{transition_at, start_at, target_at, claim_at};
 ghost use Rattle.format.specs.Checked.{checked};

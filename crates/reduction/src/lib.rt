@@ -1,4 +1,6 @@
 // The reduced form of a claim, as numbers: document 01, "Half spaces and verdicts".
+#![tactic(auto)]
+
 ghost use Rattle.std.specs.Prelude.{◌≡◌, map, ◌≤◌, ℤ, pos, ◌*ℤ◌, take};
 ghost use Rattle.nets.specs.HalfSpaces.{sixteen};
 ghost use Rattle.nets.specs.Reduced.{EachOf, Divides, IsReduced};
@@ -9,7 +11,7 @@ pub mod euclid; // euclid.rt: greatest common divisors
 use euclid::{divisor, wide};
 use terms::Place;
 
-#[derive(Drop)]
+#[derive(Clone, Copy)]
 pub struct Form {
     pub coefficients: [i8; Place::MOST],
     pub constant: i16,

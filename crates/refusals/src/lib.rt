@@ -1,11 +1,13 @@
 // Refusals: document 01, "Numbers that say no".
+#![tactic(auto)]
+
 ghost use Rattle.std.specs.Prelude.{◌≡◌};
 ghost use Rattle.refusals.specs.Refusals.{detail_of, refused_at, not_a_claim, not_a_transition, small_area, not_enabled, too_many, long_list, small_text};
 
 use terms::{Claim, Place, Text, Transition};
 
 // What a refusal's detail counts.
-#[derive(Drop)]
+#[derive(Clone, Copy)]
 pub enum Detail {
     Byte(usize),
     Length(usize),
@@ -15,7 +17,7 @@ pub enum Detail {
     Nothing,
 }
 
-#[derive(Drop)]
+#[derive(Clone, Copy)]
 pub struct Refusal {
     pub number: u8,
     pub detail: Detail,

@@ -1,4 +1,6 @@
 // The table of remainders: entry r is the least value with remainder r that sums of the sizes reach. Its length a is one of the sizes.
+#![tactic(auto)]
+
 ghost use Rattle.std.specs.Prelude.{◌≡◌, List, ◌∷◌, ℕ, ◌+◌, ◌%◌, ◌≤◌, ◌<◌, nat_abs, length, get_or};
 ghost use Rattle.remainders.specs.Sums.{sizes};
 ghost use Rattle.remainders.specs.Steps.{Blank, Closed, Ready, Swept, Tabled};

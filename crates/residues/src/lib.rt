@@ -1,5 +1,7 @@
 // Whether a transition breaks a half space, asked of what is told of the claim's coefficients.
 // With coefficients of one sign a transition asks whether some vector's value lies in a window, and a table of remainders answers that.
+#![tactic(auto)]
+
 ghost use Rattle.std.specs.Prelude.{◌≡◌, List, ℕ, ℤ, pos, ◌≤ℤ◌};
 ghost use Rattle.signed.specs.Parts.{positive_part};
 ghost use Rattle.nets.specs.Nets.{Transition};

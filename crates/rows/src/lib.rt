@@ -1,4 +1,6 @@
 // Sixteen numbers of one kind, zero beyond place n.
+#![tactic(auto)]
+
 ghost use Rattle.std.specs.Prelude.{◌≡◌, map, ◌+◌, ◌*◌, ◌≤◌, pos, length};
 ghost use Rattle.signed.specs.Twos.{twos8};
 ghost use Rattle.nets.specs.HalfSpaces.{sixteen};

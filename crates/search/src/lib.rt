@@ -1,6 +1,8 @@
 // Is there an x of whole numbers, zero or more, with lo <= k(0) x(0) + k(1) x(1) + .. <= hi, and which has the least total?
 // A breadth-first search over the values that steps of one more can lead to, in two areas that the caller lends. A coefficient that
 // stands at several places is one step, and one of 0 is none.
+#![tactic(auto)]
+
 ghost use Rattle.std.specs.Prelude.{◌≡◌, ◌≤◌, length, take, replicate};
 ghost use Rattle.distinct.specs.Row.{Inside};
 ghost use Rattle.search.specs.Searched.{Searched, Ends};

@@ -1,4 +1,6 @@
 // The net, the start and the target of a sheet: document 01, "What the sheet holds". Each call reads the whole sheet first and passes its refusal on.
+#![tactic(auto)]
+
 ghost use Rattle.std.specs.Prelude.{◌≡◌};
 ghost use Rattle.format.specs.Reading.{reading};
 ghost use Rattle.sheet.specs.Held.{weights_of, start_of, target_of, no_weights};

@@ -1,4 +1,6 @@
 // A breadth-first search over positions: from each entry of the queue in its order, one step by each place. A position's mark names the place whose step led there first.
+#![tactic(auto)]
+
 ghost use Rattle.std.specs.Prelude.{◌≡◌, ◌<◌, ◌≤◌, length, get_or, replicate};
 ghost use Rattle.signed.specs.Parts.{positive_part, negative_part};
 ghost use Rattle.spreading.specs.State.{Next, State, Sizes, Visited, Expanded, Reaches};

@@ -1,4 +1,6 @@
 // What depends on a claim's coefficients alone, made once for a claim: which signs they have, and with one sign the table of remainders.
+#![tactic(auto)]
+
 ghost use Rattle.std.specs.Prelude.{◌≡◌, ◌≤◌, length, take};
 ghost use Rattle.remainders.specs.Sums.{sizes, Within};
 ghost use Rattle.tables.specs.Told.{has_table, Told};
@@ -10,7 +12,7 @@ use signs::{smallest, sort_of};
 use terms::Place;
 
 // All coefficients are zero; some are above zero and none below; some below and none above; both.
-#[derive(Drop)]
+#[derive(Clone, Copy)]
 pub enum Sort {
     Still,
     Rising,
@@ -19,7 +21,7 @@ pub enum Sort {
 }
 
 // The first `least` entries of the table count.
-#[derive(Drop)]
+#[derive(Clone, Copy)]
 pub struct Reach {
     pub sort: Sort,
     pub least: usize,

@@ -1,15 +1,17 @@
 // What is counted, with its limits: places, transitions and claims, and the entries of lent areas; and numbers made wider.
+#![tactic(auto)]
+
 ghost use Rattle.std.specs.Prelude.{◌≡◌, ◌≤◌, nat_abs};
-ghost use Rattle.terms.specs.Limits.{among as isAmong, areas_fit};
+ghost use Rattle.terms.specs.Limits.{among as is_among, areas_fit};
 
 // Places, transitions and claims are counted apart, each from 1: none is ever taken for another.
-#[derive(Drop)]
+#[derive(Clone, Copy)]
 pub struct Place(pub usize);
 
-#[derive(Drop)]
+#[derive(Clone, Copy)]
 pub struct Transition(pub usize);
 
-#[derive(Drop)]
+#[derive(Clone, Copy)]
 pub struct Claim(pub usize);
 
 impl Place {
@@ -29,7 +31,7 @@ impl Claim {
 
 // Is `i` one of `count` numbers that are counted from 1?
 pub fn among(i: usize, count: usize) -> bool
-    ensures { result ≡ isAmong i count }
+    ensures { result ≡ is_among i count }
 {
     if i < 1 { false } else { i <= count }
 }

@@ -1,4 +1,6 @@
 // Text written into an area that the caller lends, piece behind piece.
+#![tactic(auto)]
+
 ghost use Rattle.std.specs.Prelude.{[], ◌∷◌, ◌++◌, ◌+◌, ◌≤◌, ◌<◌, length};
 ghost use Rattle.text.specs.Bytes.{Wrote, digit, decimal};
 

@@ -37,8 +37,8 @@ module _ (x : Contents) (f : Formed x) (list : List ℕ) (m : Marking) (long : l
   led_to : (list_of (sound x) list m).answer ≡ Fine → after ≡ (walked (sound x) (steps list) m).tokens
   led_to e = ap (λ (a : Traced). a.marking.tokens) (fine_walked list m (sound x) e)
 
-  pub list-ends : (list_of (sound x) list m).answer ≡ Fine → Ends net (take n m.tokens) list (take n after) × (drop n after ≡ drop n m.tokens)
-  list-ends e =
+  pub list_ends : (list_of (sound x) list m).answer ≡ Fine → Ends net (take n m.tokens) list (take n after) × (drop n after ≡ drop n m.tokens)
+  list_ends e =
       let (w, b) = walk_ends x f (steps list) m long ((fine_exactly list m (sound x)).0 e).each_fine in
       (subst (λ z. Ends net (take n m.tokens) z (take n after)) (same_numbers list) (subst (λ (z : List ℕ). Ends net (take n m.tokens) (numbers (steps list)) (take n z)) (sym (led_to e)) w), ap (drop n) (led_to e) ∙ b)
 

@@ -1,4 +1,6 @@
 // A list fired in one call: 02, req 01. A worker's trace is pasted whole, and moves the marking as its single steps would.
+#![tactic(auto)]
+
 ghost use Rattle.std.specs.Prelude.{◌≡◌};
 ghost use Rattle.format.specs.Reading.{reading};
 ghost use Rattle.known.specs.Known.{Known};

@@ -1,4 +1,6 @@
 // From an entry of the queue back to the start: the counts that lead there.
+#![tactic(auto)]
+
 ghost use Rattle.std.specs.Prelude.{◌≡◌, ◌+◌, ◌-◌, ◌<◌, ◌≤◌, length, replicate};
 ghost use Rattle.signed.specs.Parts.{positive_part, negative_part};
 ghost use Rattle.spreading.specs.State.{Sizes, Entry};

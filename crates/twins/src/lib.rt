@@ -1,4 +1,6 @@
 // Reduced forms and twins: document 01, "Half spaces and verdicts".
+#![tactic(auto)]
+
 ghost use Rattle.std.specs.Prelude.{◌≡◌, ◌≤◌, pos, take};
 ghost use Rattle.nets.specs.HalfSpaces.{sixteen};
 ghost use Rattle.nets.specs.Reduced.{IsReduced};

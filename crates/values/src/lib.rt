@@ -1,4 +1,6 @@
 // The value of a marking under coefficients, in signed integers: document 01, "Half spaces and verdicts". No sum can wrap.
+#![tactic(auto)]
+
 ghost use Rattle.std.specs.Prelude.{◌≡◌, ◌+◌, ◌≤◌, pos, negsuc, ◌*ℤ◌, ◌≤ℤ◌, length, take};
 ghost use Rattle.nets.specs.HalfSpaces.{value};
 ghost use Rattle.format.specs.Reading.{bytes};

@@ -1,4 +1,6 @@
 // The verdict on a claim: start-outside, target-inside, broken, proof. Demand 3 and document 01, "Half spaces and verdicts".
+#![tactic(auto)]
+
 ghost use Rattle.std.specs.Prelude.{◌≡◌, ◌≤◌, length};
 ghost use Rattle.lent.specs.Wiped.{Wiped};
 ghost use Rattle.format.specs.Read.{sound};

@@ -1,4 +1,6 @@
 // The walk: document 01, "The walk". The desk walks a net one firing at a time, and each step moves the same marking on.
+#![tactic(auto)]
+
 ghost use Rattle.std.specs.Prelude.{◌≡◌, ◌≤◌};
 ghost use Rattle.format.specs.Reading.{reading};
 ghost use Rattle.known.specs.Known.{Known};
@@ -14,7 +16,7 @@ use sheet::start_of;
 use terms::{Place, Transition, among};
 
 // The net's places stand first; the numbers beyond them are the lender's own.
-#[derive(Drop)]
+#[derive(Clone, Copy)]
 pub struct Marking {
     pub tokens: [u16; Place::MOST],
 }

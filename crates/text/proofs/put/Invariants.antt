@@ -1,0 +1,12 @@
+-- `put` meets its contract: after i turns the first i bytes stand from `at` on, and all else as it was.
+use mathlib.Core.Path.{◌≡◌}
+use Prim.Native.Nat.{◌-◌, ◌≤◌}
+use lib.ListN.{length}
+use lib.Seq.{paste}
+use Rattle.text.proofs.put.Given as goal
+
+abbrev pub invariant-loop-i : goal.invariant-loop-i
+invariant-loop-i l = (l.i ≤ length l.bytes) × (length l.text ≡ length l.initial.text) × (l.text ≡ paste l.initial.text l.at l.bytes l.i)
+
+abbrev pub decreases-loop-i : goal.decreases-loop-i
+decreases-loop-i l = length l.bytes - l.i

@@ -1,0 +1,15 @@
+-- `value_at` meets its contract: the sum so far with the value of what is left is the whole, and each turn adds at most 8,388,480 on either side.
+use mathlib.Core.Path.{◌≡◌}
+use Prim.Native.Nat.{◌≤◌, ◌-◌, ◌*◌}
+use lib.ListN.{take, drop}
+use lib.IntN.{pos, neg_ℤ, ◌+ℤ◌}
+use lib.Signed.{◌≤ℤ◌}
+use Rattle.nets.specs.HalfSpaces.{value}
+use Rattle.format.specs.Reading.{bytes}
+use Rattle.values.proofs.value_at.Given as goal
+
+abbrev pub invariant-loop-p : goal.invariant-loop-p
+invariant-loop-p l = (l.p ≤ l.n) × (l.sum ≤ℤ pos (8388480 * l.p)) × (neg_ℤ (pos (8388480 * l.p)) ≤ℤ l.sum) × ((l.sum +ℤ value (drop l.p (take l.n l.k)) (drop l.p (bytes l.s l.at l.n))) ≡ value (take l.n l.k) (bytes l.s l.at l.n))
+
+abbrev pub decreases-loop-p : goal.decreases-loop-p
+decreases-loop-p l = l.n - l.p
