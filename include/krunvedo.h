@@ -1,4 +1,4 @@
-/* krunvedo.h: the Krunvedo library for C and for languages that call C. Link libkrunvedo.a (`rt staticlib krunvedo` writes it to
+/* krunvedo.h: the Krunvedo library for C and for languages that call C. Link libkrunvedo.a (`scripts/library` writes it to
  * target/staticlib/). It is for x86-64 Linux and needs of the C library only memcpy and memset.
  *
  * What each call answers is set out in documents 01 and 02, and proved for every input: any bytes may stand in a sheet, and any

@@ -28,7 +28,7 @@ EXPECTED = [
     rf"docs/(?:changes/)?{NAME}\.md",
     rf"drafts/{NAME}\.txt",
     rf"(?:tests|bench|examples)/(?:{NAME}/)*{NAME}",
-    rf"(?:include|scripts)/{NAME}",
+    rf"(?:include|scripts|tools)/{NAME}",
     r"README\.md|crates\.txt|judge|test|\.ci/run|\.gitignore",
 ]
 IGNORED = {".git", "target", "__pycache__"}  # with git's own folder, what .gitignore leaves out
@@ -44,7 +44,7 @@ def check_files(checks: Checks) -> None:
     checks.equal("files at no place where one is expected", b"", [], strays(files))
     checks.equal("files of the tests and measures that no other file names", b"", [], unnamed(files))
     crates = {file.split("/")[1] for file in files if file.startswith("crates/")}
-    listed = {line.split(":")[0] for line in (ROOT / "crates.txt").read_text().splitlines() if not line.startswith("#")}
+    listed = {re.split("[ :]", line)[0] for line in (ROOT / "crates.txt").read_text().splitlines() if not line.startswith("#")}
     checks.equal("crates that crates.txt does not list", b"", [], sorted(crates - listed))
     checks.equal("crates of crates.txt that are not there", b"", [], sorted(listed - crates))
 
@@ -59,9 +59,9 @@ def files_of_git(root: Path) -> list[str]:
 
 
 def files_there(root: Path) -> list[str]:
-    # crates/records has a folder of proofs that is named target: only the one at the root is rt's.
+    # crates/records has a folder of proofs that is named target: only the one at the root is built.
     paths = (path.relative_to(root) for path in root.rglob("*") if path.is_file())
-    return sorted(str(path) for path in paths if path.parts[0] not in IGNORED and "__pycache__" not in path.parts)
+    return sorted(str(path) for path in paths if path.parts[0] not in IGNORED and not {"out", "__pycache__"}.intersection(path.parts))
 
 
 def strays(files: list[str]) -> list[str]:

@@ -2,20 +2,18 @@
 
     python3 tests/library_checks.py
 
-The archive must be built (`scripts/library`). It is for x86-64; on another machine C is linked by a cross compiler and run by the
-kit's emulator, and Rust, which has no library of its own for x86-64 there, isn't.
+The archive must be built (`scripts/library`).
 """
 
 import sys
 
 sys.dont_write_bytecode = True  # before the imports of our own modules, which would leave __pycache__ behind
 
-import platform
 from collections.abc import Iterator
 
 from checks import Checks, run_checks
 from named_cases import FIRST
-from programs import ARCHIVES, BUILT, COMPILER, NATIVE, ROOT, TIME_LIMIT, build, c_program, output_of
+from programs import ARCHIVES, BUILT, COMPILER, ROOT, TIME_LIMIT, build, c_program, output_of
 from verdicts_by_hand import LISTING_OF_01
 
 STRICT_RUST = ["--edition", "2021", "--test", "-D", "warnings"]
@@ -25,10 +23,7 @@ def check_library(checks: Checks) -> None:
     expected = "".join(line + "\n" for line in expected_lines())
     checks.equal("the library from C", FIRST, expected, output_of(c_program("example"), TIME_LIMIT, input=FIRST))
     print(f"library: linked by {COMPILER}")
-    if NATIVE:
-        check_rust(checks)
-    else:
-        print(f"library: not linked by rustc, which makes no x86-64 programs on {platform.machine()}")
+    check_rust(checks)
 
 
 def check_rust(checks: Checks) -> None:

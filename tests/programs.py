@@ -1,7 +1,6 @@
 """Starts the project's programs and those of tests/c, and says how they ended."""
 
 import os
-import platform
 import subprocess
 import time
 from collections.abc import Iterable, Sequence
@@ -14,20 +13,15 @@ ROOT = Path(__file__).resolve().parent.parent
 TIME_LIMIT = 5  # seconds for one sheet, which needs some hundredths of one
 START_TIME = 0.15  # seconds after which a program surely reads
 
-# The library and the programs are for x86-64. Elsewhere a cross compiler builds C, and the kit's emulator runs it.
-NATIVE = platform.machine() == "x86_64"
-COMPILER = "gcc" if NATIVE else "x86_64-linux-gnu-gcc"
+COMPILER = "gcc"
 ARCHIVES = ROOT / "target" / "staticlib"
 BUILT = ROOT / "target" / "tests"
 STRICT_C = ["-std=c11", "-pedantic", "-Wall", "-Wextra", "-Werror", "-O2"]
 
 
-@cache
 def command(name: str) -> list[str]:
-    """The words that start a program, asked for once: the script takes about as long as the start itself."""
-    words = finished([str(ROOT / "scripts" / "program"), "--words", name], stdout=subprocess.PIPE)
-    words.check_returncode()
-    return words.stdout.decode().splitlines()
+    """The words that start a program, which `scripts/program` built."""
+    return [str(ROOT / "crates" / name / "out" / name)]
 
 
 @cache
@@ -38,7 +32,7 @@ def c_program(name: str) -> list[str]:
     BUILT.mkdir(parents=True, exist_ok=True)
     build([COMPILER, *STRICT_C, f"-I{ROOT / 'include'}", source, archive, "-o", draft])
     draft.replace(program)
-    return [str(program)] if NATIVE else command(str(program))
+    return [str(program)]
 
 
 class NotBuilt(Exception):

@@ -77,7 +77,9 @@ def labels_in(piece: str, crate: str) -> Iterator[tuple[list[str], str]]:
 
 
 def words_of_code() -> set[str]:
-    files = [*ROOT.glob("crates/*/src/*.rt"), ROOT / "include" / "krunvedo.h"]
+    """Of the functions, and of the definitions and laws, which are spelled as functions are."""
+    lower = [path for part in ("specs", "proofs") for path in ROOT.glob(f"crates/*/{part}/*.antt")]
+    files = [*ROOT.glob("crates/*/src/*.rt"), *lower, ROOT / "include" / "krunvedo.h"]
     return {word for path in files for word in re.findall(r"\w+", path.read_text())}
 
 
