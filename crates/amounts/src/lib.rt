@@ -7,7 +7,7 @@ ghost use Rattle.terms.specs.Limits.{weight_fits, coefficient_fits, constant_fit
 ghost use Rattle.amounts.specs.Kinds.{kind_of_byte};
 
 // A weight taken or put.
-#[derive(Drop)]
+#[derive(Clone, Copy)]
 pub struct Weight(pub u8);
 
 impl Weight {
@@ -27,7 +27,7 @@ impl Weight {
 }
 
 // Kind 0 is one exact marking; kind 1 is every marking at or above it in each place.
-#[derive(Drop)]
+#[derive(Clone, Copy)]
 pub enum Kind {
     Exact,
     AtOrAbove,
@@ -44,7 +44,7 @@ impl Kind {
 }
 
 // A coefficient of a half space, read from its byte as two's complement.
-#[derive(Drop)]
+#[derive(Clone, Copy)]
 pub struct Coefficient(pub i8);
 
 impl Coefficient {
@@ -78,7 +78,7 @@ impl Coefficient {
 }
 
 // The constant of a half space, read from its two bytes as two's complement, the low byte first.
-#[derive(Drop)]
+#[derive(Clone, Copy)]
 pub struct Constant(pub i16);
 
 impl Constant {

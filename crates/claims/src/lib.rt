@@ -12,7 +12,7 @@ use refusals::{Check, Refusal};
 use rows::numbers_at;
 use terms::{Claim, Place, among};
 
-#[derive(Drop)]
+#[derive(Clone, Copy)]
 pub struct HalfSpace {
     pub answer: Check,
     pub coefficients: [i8; Place::MOST],

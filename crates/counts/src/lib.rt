@@ -9,7 +9,7 @@ use reader::{Reading, read};
 use refusals::Check;
 
 // The count is 0 where the sheet is refused.
-#[derive(Drop)]
+#[derive(Clone, Copy)]
 pub struct Count {
     pub answer: Check,
     pub count: usize,

@@ -11,7 +11,7 @@ use Rattle.signed.specs.Parts.{bounds}
 use Rattle.nets.specs.Nets.{Transition, ◌⊞◌, Room}
 use Rattle.nets.specs.HalfSpaces.{HalfSpace, Kept, Shown, sixteen}
 use Rattle.nets.specs.Window.{low_end, high_end, InWindow}
-use Rattle.nets.proofs.Vectors.{get_d_plus, room-length}
+use Rattle.nets.proofs.Vectors.{get_or-plus, room-length}
 use Rattle.nets.proofs.Theorem1.{bad_beside, kept_exactly}
 use Rattle.format.specs.Formed.{IsWeight}
 use Rattle.format.specs.Reading.{transition_in}
@@ -69,7 +69,7 @@ module _ (ks : List ℤ) (c : ℤ) (s : List ℕ) (n at : ℕ) (r : Ready ks c s
           bounded = λ p.
               omega (
                 arith,
-                get_d_plus t.taken (take n x) p beside_same,
+                get_or-plus t.taken (take n x) p beside_same,
                 leb-true (get_or t.taken p 0) 9 (all_get_d IsWeight 0 refl t.taken p r.weights.taken.each),
                 take_at_most n x p,
                 b.bounded p,

@@ -15,7 +15,7 @@ use terms::Place;
 use values::value_at;
 use window::{Window, beside};
 
-#[derive(Drop)]
+#[derive(Clone, Copy)]
 pub struct Crossing {
     pub hit: bool,
     pub marking: [u16; Place::MOST],

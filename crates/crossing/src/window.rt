@@ -5,7 +5,7 @@ ghost use Rattle.values.specs.Range.{Constants, Values};
 
 use terms::Place;
 
-#[derive(Drop)]
+#[derive(Clone, Copy)]
 pub struct Window {
     pub lo: i32,
     pub hi: i32,

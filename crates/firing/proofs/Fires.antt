@@ -8,7 +8,7 @@ use mathlib.Core.Bool.{true, false}
 use lib.ListN.{length, get_or, take, drop, set}
 use lib.Seq.{take-suc, take_all, drop-cons, length-take-le, get_or-take, set_at}
 use Rattle.nets.specs.Nets.{Transition, Marking, ◌⊟◌, fire}
-use Rattle.nets.proofs.Vectors.{length_plus, get_d_plus, length_minus, get_d_minus}
+use Rattle.nets.proofs.Vectors.{length_plus, get_or-plus, length_minus, get_or-minus}
 use borrow.Author.Tests.{lt-ltb, le-ltb, ltb-false}
 use Rattle.terms.specs.Limits.{most_tokens}
 use Rattle.refusals.specs.declared.Check.TheVariants.{Fine}
@@ -28,7 +28,7 @@ module _ (t : Transition) (m : Marking) (as-taken : length t.taken ≡ length m)
   unfolding fire
   fire_at p =
       let l = length_minus m t.taken (sym as-taken) in
-      rw (get_d_plus (m ⊟ t.taken) t.put p (l ∙ sym as-put), get_d_minus m t.taken p (sym as-taken))
+      rw (get_or-plus (m ⊟ t.taken) t.put p (l ∙ sym as-put), get_or-minus m t.taken p (sym as-taken))
 
 -- after p places of a firing
 abbrev pub so_far : ℕ → Marking → List ℕ → List ℕ

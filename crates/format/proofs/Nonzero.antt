@@ -1,4 +1,4 @@
--- What `someNonzero` tells: some place has a coefficient other than zero, since a number is zero exactly where its size is.
+-- What `some_nonzero` tells: some place has a coefficient other than zero, since a number is zero exactly where its size is.
 use mathlib.Core.Path.{◌≡◌, refl, ap}
 use mathlib.Core.Logic.{◌↔◌}
 use mathlib.Core.Bool.{Bool, true, false, cond}

@@ -17,7 +17,7 @@ pub struct Extent {
 }
 
 // A net's extent, or the refusal of the sheet's first fault so far.
-#[derive(Drop)]
+#[derive(Clone, Copy)]
 pub enum Measured {
     As(Extent),
     Faulty(Refusal),

@@ -11,7 +11,7 @@ use std::io::{self, Read, Write};
 use terms::{Area, Text};
 
 // How much was taken in, at the start of the room that was lent.
-#[derive(Drop)]
+#[derive(Clone, Copy)]
 enum Input {
     Kept(usize),
     Failed,

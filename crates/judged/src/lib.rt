@@ -18,7 +18,7 @@ pub enum Answer {
 }
 
 // The marking is bad where the answer is Broken, and zeros elsewhere.
-#[derive(Drop)]
+#[derive(Clone, Copy)]
 pub struct Judged {
     pub answer: Answer,
     pub marking: [u16; Place::MOST],

@@ -1,4 +1,4 @@
-// The library for programs in other languages: every call over numbers and slices. `include/krunvedo.h` declares it for C.
+// The library for programs in other languages: every call over numbers and slices. `include/krunvedo.h` declares it for C, and crate `krunvedo_c` exports it.
 // Each export asks the library and puts its answer into numbers, as `numbers/specs/Numbers.antt` sets them out.
 #![tactic(auto)]
 

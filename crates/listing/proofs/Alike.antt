@@ -84,18 +84,18 @@ module _ (x : Contents) where
       a.is ∙ ap (λ (ls : List ℕ). counts_of_sheet x ++ ls) (lines_equal (length x.claims) none a.lines b.lines a.are b.are) ∙ sym b.is
 
 -- two answers to one call
-lists_alike : (k : Check) (x : Contents) (old new new-too : List ℕ) (r s : Listed) → Lists k x old new r → Lists k x old new-too s → AnswersAlike (sound x) old new new-too r s
-lists_alike Fine x old new new-too r s a b = both_listed x refl a.0 b.0 (alike x a.0 b.0 a.1 b.1) a.2 b.2 a.3 b.3
-lists_alike (Refused q) x old new new-too r s a b = both_refused q a.0 b.0 a.1 b.1
+lists_alike : (k : Check) (x : Contents) (old new new_too : List ℕ) (r s : Listed) → Lists k x old new r → Lists k x old new_too s → AnswersAlike (sound x) old new new_too r s
+lists_alike Fine x old new new_too r s a b = both_listed x refl a.0 b.0 (alike x a.0 b.0 a.1 b.1) a.2 b.2 a.3 b.3
+lists_alike (Refused q) x old new new_too r s a b = both_refused q a.0 b.0 a.1 b.1
 
-pub answers_alike : (y : Read Contents) (marks queue : ℕ) (old new new-too : List ℕ) (r s : Listed) → IsListed y marks queue old new r → IsListed y marks queue old new-too s → AnswersAlike y old new new-too r s
-answers_alike (refused q) marks queue old new new-too r s a b = both_refused q a.0 b.0 a.1 b.1
-answers_alike (sound x) marks queue old new new-too r s a b = lists_alike (room_check marks queue (length old)) x old new new-too r s a b
+pub answers_alike : (y : Read Contents) (marks queue : ℕ) (old new new_too : List ℕ) (r s : Listed) → IsListed y marks queue old new r → IsListed y marks queue old new_too s → AnswersAlike y old new new_too r s
+answers_alike (refused q) marks queue old new new_too r s a b = both_refused q a.0 b.0 a.1 b.1
+answers_alike (sound x) marks queue old new new_too r s a b = lists_alike (room_check marks queue (length old)) x old new new_too r s a b
 
 -- a refusal's line leaves nothing to choose
-written_once : (t : Bool) (q : Refusal) (old new new-too : List ℕ) (r s : Listed) → RefusalWritten t q old new r → RefusalWritten t q old new-too s → (r ≡ s) × (new ≡ new-too)
-written_once true q old new new-too r s a b = (a.0 ∙ sym b.0, a.1 ∙ sym b.1)
-written_once false q old new new-too r s a b = (a.0 ∙ sym b.0, a.1 ∙ sym b.1)
+written_once : (t : Bool) (q : Refusal) (old new new_too : List ℕ) (r s : Listed) → RefusalWritten t q old new r → RefusalWritten t q old new_too s → (r ≡ s) × (new ≡ new_too)
+written_once true q old new new_too r s a b = (a.0 ∙ sym b.0, a.1 ∙ sym b.1)
+written_once false q old new new_too r s a b = (a.0 ∙ sym b.0, a.1 ∙ sym b.1)
 
-pub one_refusal_text : (q : Refusal) (old new new-too : List ℕ) (r s : Listed) → IsRefusalText q old new r → IsRefusalText q old new-too s → (r ≡ s) × (new ≡ new-too)
-one_refusal_text q old new new-too r s a b = written_once (leb text_size (length old)) q old new new-too r s a b
+pub one_refusal_text : (q : Refusal) (old new new_too : List ℕ) (r s : Listed) → IsRefusalText q old new r → IsRefusalText q old new_too s → (r ≡ s) × (new ≡ new_too)
+one_refusal_text q old new new_too r s a b = written_once (leb text_size (length old)) q old new new_too r s a b

@@ -22,7 +22,7 @@ pub record LineAlike (i : ℕ) (line other : List ℕ) : Type 0 where
 -- the lines of the claims 1 to i, line by line
 unfoldable pub LinesAlike : ℕ → List ℕ → List ℕ → Type 0
 LinesAlike zero text other = (text ≡ []) × (other ≡ [])
-LinesAlike (suc i) text other = (before : List ℕ) × (line : List ℕ) × (before-too : List ℕ) × (line-too : List ℕ) × LinesAlike i before before-too × LineAlike (suc i) line line-too × (text ≡ before ++ line) × (other ≡ before-too ++ line-too)
+LinesAlike (suc i) text other = (before : List ℕ) × (line : List ℕ) × (before_too : List ℕ) × (line_too : List ℕ) × LinesAlike i before before_too × LineAlike (suc i) line line_too × (text ≡ before ++ line) × (other ≡ before_too ++ line_too)
 
 -- the same line of counts, and lines that are alike
 pub record Alike (x : Contents) (text other : List ℕ) : Type 0 where
@@ -37,6 +37,6 @@ unfoldable pub Unbroken : Contents → ℕ → Type 0
 Unbroken x i = (t : ℕ) (m : Marking) → IsVerdict x.setting (half_space (claim x i)) (broken t m) → ⊥
 
 -- two answers with the areas that they leave: one refusal, or listings that are alike
-pub data AnswersAlike (y : Read Contents) (old new new-too : List ℕ) (r s : Listed) : Type 0 where
-  both_refused : (q : Refusal) → r ≡ listed.Refused q → s ≡ listed.Refused q → new ≡ old → new-too ≡ old → AnswersAlike y old new new-too r s
-  both_listed : (x : Contents) → y ≡ sound x → (text other : List ℕ) → Alike x text other → r ≡ listed.Written (length text) → s ≡ listed.Written (length other) → new ≡ text ++ drop (length text) old → new-too ≡ other ++ drop (length other) old → AnswersAlike y old new new-too r s
+pub data AnswersAlike (y : Read Contents) (old new new_too : List ℕ) (r s : Listed) : Type 0 where
+  both_refused : (q : Refusal) → r ≡ listed.Refused q → s ≡ listed.Refused q → new ≡ old → new_too ≡ old → AnswersAlike y old new new_too r s
+  both_listed : (x : Contents) → y ≡ sound x → (text other : List ℕ) → Alike x text other → r ≡ listed.Written (length text) → s ≡ listed.Written (length other) → new ≡ text ++ drop (length text) old → new_too ≡ other ++ drop (length other) old → AnswersAlike y old new new_too r s

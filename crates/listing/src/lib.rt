@@ -20,7 +20,7 @@ use refusals::{Check, Refusal};
 use terms::{Area, Text};
 
 // How long the text is, or a refusal.
-#[derive(Drop)]
+#[derive(Clone, Copy)]
 pub enum Listed {
     Written(usize),
     Refused(Refusal),

@@ -20,13 +20,13 @@ length_plus [] ys e = refl
 length_plus (x ∷ xs) [] e = absurd (omega arith)
 length_plus (x ∷ xs) (y ∷ ys) e = ap suc (length_plus xs ys (omega arith))
 
-pub get_d_plus : (xs ys : List ℕ) (p : ℕ) → length xs ≡ length ys → get_or (xs ⊞ ys) p 0 ≡ get_or xs p 0 + get_or ys p 0
+pub get_or-plus : (xs ys : List ℕ) (p : ℕ) → length xs ≡ length ys → get_or (xs ⊞ ys) p 0 ≡ get_or xs p 0 + get_or ys p 0
 unfolding ◌⊞◌
-get_d_plus [] [] p e = refl
-get_d_plus [] (y ∷ ys) p e = absurd (omega arith)
-get_d_plus (x ∷ xs) [] p e = absurd (omega arith)
-get_d_plus (x ∷ xs) (y ∷ ys) zero e = refl
-get_d_plus (x ∷ xs) (y ∷ ys) (suc p) e = get_d_plus xs ys p (omega arith)
+get_or-plus [] [] p e = refl
+get_or-plus [] (y ∷ ys) p e = absurd (omega arith)
+get_or-plus (x ∷ xs) [] p e = absurd (omega arith)
+get_or-plus (x ∷ xs) (y ∷ ys) zero e = refl
+get_or-plus (x ∷ xs) (y ∷ ys) (suc p) e = get_or-plus xs ys p (omega arith)
 
 pub value_plus : (k : List ℤ) (xs ys : List ℕ) → length xs ≡ length ys → value k (xs ⊞ ys) ≡ value k xs +ℤ value k ys
 unfolding value ◌⊞◌
@@ -43,13 +43,13 @@ length_minus [] ys e = refl
 length_minus (x ∷ xs) [] e = absurd (omega arith)
 length_minus (x ∷ xs) (y ∷ ys) e = ap suc (length_minus xs ys (omega arith))
 
-pub get_d_minus : (xs ys : List ℕ) (p : ℕ) → length xs ≡ length ys → get_or (xs ⊟ ys) p 0 ≡ get_or xs p 0 - get_or ys p 0
+pub get_or-minus : (xs ys : List ℕ) (p : ℕ) → length xs ≡ length ys → get_or (xs ⊟ ys) p 0 ≡ get_or xs p 0 - get_or ys p 0
 unfolding ◌⊟◌
-get_d_minus [] [] p e = refl
-get_d_minus [] (y ∷ ys) p e = absurd (omega arith)
-get_d_minus (x ∷ xs) [] p e = absurd (omega arith)
-get_d_minus (x ∷ xs) (y ∷ ys) zero e = refl
-get_d_minus (x ∷ xs) (y ∷ ys) (suc p) e = get_d_minus xs ys p (omega arith)
+get_or-minus [] [] p e = refl
+get_or-minus [] (y ∷ ys) p e = absurd (omega arith)
+get_or-minus (x ∷ xs) [] p e = absurd (omega arith)
+get_or-minus (x ∷ xs) (y ∷ ys) zero e = refl
+get_or-minus (x ∷ xs) (y ∷ ys) (suc p) e = get_or-minus xs ys p (omega arith)
 
 -- the order
 pub at_most_itself : (xs : List ℕ) → xs ⊑ xs
@@ -58,7 +58,7 @@ at_most_itself xs = (refl, λ p. omega arith)
 
 pub at_most_sum : (xs ys : List ℕ) → length ys ≡ length xs → xs ⊑ xs ⊞ ys
 unfolding ◌⊑◌
-at_most_sum xs ys e = (sym (length_plus xs ys (sym e)), λ p. omega (arith, get_d_plus xs ys p (sym e)))
+at_most_sum xs ys e = (sym (length_plus xs ys (sym e)), λ p. omega (arith, get_or-plus xs ys p (sym e)))
 
 -- the sum takes back what was left, and the other way round
 pub sum_rest : (xs ys : List ℕ) → xs ⊑ ys → xs ⊞ (ys ⊟ xs) ≡ ys
@@ -66,13 +66,13 @@ unfolding ◌⊑◌
 sum_rest xs ys h =
     let e : length xs ≡ length (ys ⊟ xs) = omega (arith, length_minus ys xs (sym h.0)) in
     ext_get_or 0 (xs ⊞ (ys ⊟ xs)) ys (omega (arith, length_plus xs (ys ⊟ xs) e))
-    (λ p _. omega (arith, get_d_plus xs (ys ⊟ xs) p e, get_d_minus ys xs p (sym h.0), h.1 p))
+    (λ p _. omega (arith, get_or-plus xs (ys ⊟ xs) p e, get_or-minus ys xs p (sym h.0), h.1 p))
 
 pub rest_sum : (xs ys : List ℕ) → length ys ≡ length xs → (xs ⊞ ys) ⊟ xs ≡ ys
 rest_sum xs ys e =
     let l : length (xs ⊞ ys) ≡ length xs = length_plus xs ys (sym e) in
     ext_get_or 0 ((xs ⊞ ys) ⊟ xs) ys (omega (arith, length_minus (xs ⊞ ys) xs l))
-    (λ p _. omega (arith, get_d_minus (xs ⊞ ys) xs p l, get_d_plus xs ys p (sym e)))
+    (λ p _. omega (arith, get_or-minus (xs ⊞ ys) xs p l, get_or-plus xs ys p (sym e)))
 
 -- A marking is inside or its value is below the constant, and outside is the second.
 pub inside_or_below : (h : HalfSpace) (m : Marking) → Inside h m ⊎ (value h.coefficients m <ℤ h.constant)
@@ -137,7 +137,7 @@ module _ (t : Transition) (same : length t.put ≡ length t.taken) where
   length-fire m h =
       length_plus (m ⊟ t.taken) t.put (left_over m h) ∙ length_minus m t.taken (enabled-length t m h)
 
-  pub get_d_fire : (m : Marking) (p : ℕ) → Enabled t m → get_or (fire t m) p 0 ≡ (get_or m p 0 - get_or t.taken p 0) + get_or t.put p 0
+  pub get_or-fire : (m : Marking) (p : ℕ) → Enabled t m → get_or (fire t m) p 0 ≡ (get_or m p 0 - get_or t.taken p 0) + get_or t.put p 0
   unfolding fire
-  get_d_fire m p h =
-      rw (get_d_plus (m ⊟ t.taken) t.put p (left_over m h), get_d_minus m t.taken p (enabled-length t m h))
+  get_or-fire m p h =
+      rw (get_or-plus (m ⊟ t.taken) t.put p (left_over m h), get_or-minus m t.taken p (enabled-length t m h))

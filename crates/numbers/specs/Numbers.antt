@@ -13,14 +13,14 @@ use Rattle.sheet.specs.declared.Start.{Start}
 use Rattle.sheet.specs.declared.Target as sheet
 use Rattle.claims.specs.declared.HalfSpace.{HalfSpace}
 use Rattle.pairs.specs.declared.Answer as pairs
-use Rattle.pairs.specs.declared.Answer.TheVariants as pair-answers
+use Rattle.pairs.specs.declared.Answer.TheVariants as pair_answers
 use Rattle.pairs.specs.declared.Pair.{Pair}
 use Rattle.judged.specs.declared.Answer as verdicts
-use Rattle.judged.specs.declared.Answer.TheVariants as verdict-answers
+use Rattle.judged.specs.declared.Answer.TheVariants as verdict_answers
 use Rattle.judged.specs.declared.Judged.{Judged}
 use Rattle.twins.specs.declared.Reduced.{Reduced}
 use Rattle.twins.specs.declared.Twin.{Twin}
-use Rattle.twins.specs.declared.Twin.TheVariants as twin-answers
+use Rattle.twins.specs.declared.Twin.TheVariants as twin_answers
 use Rattle.walk.specs.declared.Begun.{Begun}
 use Rattle.traces.specs.declared.Traced.{Traced}
 use Rattle.listing.specs.declared.Listed.{Listed}
@@ -73,39 +73,39 @@ half_space_is h = record { refusal = check_is h.answer; coefficients = h.coeffic
 
 -- a pair: 0 refused, 1 kept, 2 broken
 abbrev pub pair_number : pairs.Answer → ℕ
-pair_number (pair-answers.Refused r) = 0
-pair_number pair-answers.Kept = 1
-pair_number pair-answers.Broken = 2
+pair_number (pair_answers.Refused r) = 0
+pair_number pair_answers.Kept = 1
+pair_number pair_answers.Broken = 2
 
 abbrev pub pair_refusal : pairs.Answer → refused.Refused
-pair_refusal pair-answers.Kept = nothing
-pair_refusal pair-answers.Broken = nothing
-pair_refusal (pair-answers.Refused r) = refusal_is r
+pair_refusal pair_answers.Kept = nothing
+pair_refusal pair_answers.Broken = nothing
+pair_refusal (pair_answers.Refused r) = refusal_is r
 
 abbrev pub pair_is : Pair → Paired
 pair_is p = record { refusal = pair_refusal p.answer; answer = pair_number p.answer; marking = p.marking }
 
 -- a verdict: 0 refused, then document 01's list from 1 to 4; the transition is 0 but where the claim is broken
 abbrev pub verdict_number : verdicts.Answer → ℕ
-verdict_number (verdict-answers.Refused r) = 0
-verdict_number verdict-answers.StartOutside = 1
-verdict_number verdict-answers.TargetInside = 2
-verdict_number (verdict-answers.Broken t) = 3
-verdict_number verdict-answers.Proof = 4
+verdict_number (verdict_answers.Refused r) = 0
+verdict_number verdict_answers.StartOutside = 1
+verdict_number verdict_answers.TargetInside = 2
+verdict_number (verdict_answers.Broken t) = 3
+verdict_number verdict_answers.Proof = 4
 
 abbrev pub verdict_refusal : verdicts.Answer → refused.Refused
-verdict_refusal verdict-answers.StartOutside = nothing
-verdict_refusal verdict-answers.TargetInside = nothing
-verdict_refusal (verdict-answers.Broken t) = nothing
-verdict_refusal verdict-answers.Proof = nothing
-verdict_refusal (verdict-answers.Refused r) = refusal_is r
+verdict_refusal verdict_answers.StartOutside = nothing
+verdict_refusal verdict_answers.TargetInside = nothing
+verdict_refusal (verdict_answers.Broken t) = nothing
+verdict_refusal verdict_answers.Proof = nothing
+verdict_refusal (verdict_answers.Refused r) = refusal_is r
 
 abbrev pub verdict_transition : verdicts.Answer → ℕ
-verdict_transition verdict-answers.StartOutside = 0
-verdict_transition verdict-answers.TargetInside = 0
-verdict_transition (verdict-answers.Broken t) = t.0
-verdict_transition verdict-answers.Proof = 0
-verdict_transition (verdict-answers.Refused r) = 0
+verdict_transition verdict_answers.StartOutside = 0
+verdict_transition verdict_answers.TargetInside = 0
+verdict_transition (verdict_answers.Broken t) = t.0
+verdict_transition verdict_answers.Proof = 0
+verdict_transition (verdict_answers.Refused r) = 0
 
 abbrev pub verdict_is : Judged → Verdict
 verdict_is v =
@@ -116,9 +116,9 @@ abbrev pub reduced_is : Reduced → Space
 reduced_is f = record { refusal = check_is f.answer; coefficients = f.coefficients; constant = f.constant }
 
 abbrev pub twin_is : Twin → Twinned
-twin_is (twin-answers.First j) = record { refusal = nothing; claim = j.0 }
-twin_is twin-answers.Without = record { refusal = nothing; claim = 0 }
-twin_is (twin-answers.Refused r) = record { refusal = refusal_is r; claim = 0 }
+twin_is (twin_answers.First j) = record { refusal = nothing; claim = j.0 }
+twin_is twin_answers.Without = record { refusal = nothing; claim = 0 }
+twin_is (twin_answers.Refused r) = record { refusal = refusal_is r; claim = 0 }
 
 -- the marking that a walk begins at
 abbrev pub begun_is : Begun → Tokens

@@ -13,14 +13,14 @@ use twins::Twin;
 
 // Both are 0 where nothing is refused.
 #[repr(C)]
-#[derive(Drop)]
+#[derive(Clone, Copy)]
 pub struct Refused {
     pub number: u8,
     pub detail: usize,
 }
 
 #[repr(C)]
-#[derive(Drop)]
+#[derive(Clone, Copy)]
 pub struct Counted {
     pub refusal: Refused,
     pub places: usize,
@@ -29,7 +29,7 @@ pub struct Counted {
 }
 
 #[repr(C)]
-#[derive(Drop)]
+#[derive(Clone, Copy)]
 pub struct Weighted {
     pub refusal: Refused,
     pub taken: [u8; Place::MOST],
@@ -37,7 +37,7 @@ pub struct Weighted {
 }
 
 #[repr(C)]
-#[derive(Drop)]
+#[derive(Clone, Copy)]
 pub struct Tokens {
     pub refusal: Refused,
     pub tokens: [u16; Place::MOST],
@@ -45,7 +45,7 @@ pub struct Tokens {
 
 // Kind 0 is one exact marking, kind 1 every marking at or above it.
 #[repr(C)]
-#[derive(Drop)]
+#[derive(Clone, Copy)]
 pub struct Target {
     pub refusal: Refused,
     pub kind: u8,
@@ -53,7 +53,7 @@ pub struct Target {
 }
 
 #[repr(C)]
-#[derive(Drop)]
+#[derive(Clone, Copy)]
 pub struct Space {
     pub refusal: Refused,
     pub coefficients: [i8; Place::MOST],
@@ -62,7 +62,7 @@ pub struct Space {
 
 // Where a claim's record stands in the sheet, and its bytes.
 #[repr(C)]
-#[derive(Drop)]
+#[derive(Clone, Copy)]
 pub struct Record {
     pub refusal: Refused,
     pub offset: usize,
@@ -71,7 +71,7 @@ pub struct Record {
 
 // 0 refused, 1 kept, 2 broken.
 #[repr(C)]
-#[derive(Drop)]
+#[derive(Clone, Copy)]
 pub struct Paired {
     pub refusal: Refused,
     pub answer: u8,
@@ -80,7 +80,7 @@ pub struct Paired {
 
 // 0 refused, then document 01's four verdicts in their order. The transition is 0 but where the claim is broken.
 #[repr(C)]
-#[derive(Drop)]
+#[derive(Clone, Copy)]
 pub struct Verdict {
     pub refusal: Refused,
     pub answer: u8,
@@ -90,7 +90,7 @@ pub struct Verdict {
 
 // The claim is 0 where no earlier one is a twin.
 #[repr(C)]
-#[derive(Drop)]
+#[derive(Clone, Copy)]
 pub struct Twinned {
     pub refusal: Refused,
     pub claim: usize,
@@ -98,7 +98,7 @@ pub struct Twinned {
 
 // The position is that of the step that is refused, counted from 1; 0 where none is.
 #[repr(C)]
-#[derive(Drop)]
+#[derive(Clone, Copy)]
 pub struct Fired {
     pub refusal: Refused,
     pub position: usize,
@@ -106,7 +106,7 @@ pub struct Fired {
 
 // Number 0 and the text's length, or a refusal's number and its detail. Two words, so that an export needs no hidden pointer to it.
 #[repr(C)]
-#[derive(Drop)]
+#[derive(Clone, Copy)]
 pub struct Written {
     pub number: u8,
     pub value: usize,

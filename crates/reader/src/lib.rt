@@ -20,7 +20,7 @@ pub struct Counts {
     pub claims: usize,
 }
 
-#[derive(Drop)]
+#[derive(Clone, Copy)]
 pub enum Reading {
     Sound(Counts),
     Malformed(Refusal),

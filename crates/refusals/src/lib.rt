@@ -113,7 +113,7 @@ impl Refusal {
 }
 
 // A part of a sheet is fine, or refused at its first fault.
-#[derive(Drop)]
+#[derive(Clone, Copy)]
 pub enum Check {
     Fine,
     Refused(Refusal),

@@ -53,7 +53,7 @@ fn coefficients_from(s: &[u8], at: usize, n: usize) -> [i8; Place::MOST]
 }
 
 // A claim's numbers: sixteen coefficients, zero beyond place n, and the constant.
-#[derive(Drop)]
+#[derive(Clone, Copy)]
 pub struct Numbers {
     pub coefficients: [i8; Place::MOST],
     pub constant: i16,

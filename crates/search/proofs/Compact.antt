@@ -41,8 +41,8 @@ record Merged (cs ks : List ℤ) (z : List ℕ) : Type 0 where
 abbrev Covered : List ℤ → ℤ → Type 0
 Covered cs k = (k ≡ pos 0) ⊎ Among cs (length cs) k
 
-get_d_map0 : (f : ℤ → ℕ) → f (pos 0) ≡ 0 → (ks : List ℤ) (p : ℕ) → get_or (map f ks) p 0 ≡ f (get_or ks p (pos 0))
-get_d_map0 f o ks p = ap (λ (d : ℕ). get_or (map f ks) p d) (sym o) ∙ get_or-map f ks p (pos 0)
+get_or_map0 : (f : ℤ → ℕ) → f (pos 0) ≡ 0 → (ks : List ℤ) (p : ℕ) → get_or (map f ks) p 0 ≡ f (get_or ks p (pos 0))
+get_or_map0 f o ks p = ap (λ (d : ℕ). get_or (map f ks) p d) (sym o) ∙ get_or-map f ks p (pos 0)
 
 -- one more coefficient and its count: a coefficient of 0 adds nothing, and any other's count goes to its place in the row
 merge_one : (cs : List ℤ) (k : ℤ) (ks : List ℤ) (a : ℕ) (z : List ℕ) → Covered cs k → Merged cs ks z → Merged cs (k ∷ ks) (a ∷ z)
@@ -59,7 +59,7 @@ merge_one cs k ks a z (inr g) m =
     record {
       y = more m.y g.at a;
       places = length-set m.y g.at (get_or m.y g.at 0 + a) ∙ m.places;
-      sums = λ f e. omega (arith, m.sums f e, dot_plus (map f cs) m.y g.at a l, ap (λ (n : ℕ). n * a) (get_d_map0 f e cs g.at ∙ ap f g.is));
+      sums = λ f e. omega (arith, m.sums f e, dot_plus (map f cs) m.y g.at a l, ap (λ (n : ℕ). n * a) (get_or_map0 f e cs g.at ∙ ap f g.is));
       fewer = omega (arith, m.fewer, total_plus m.y g.at a l);
     }
 
@@ -79,7 +79,7 @@ told ks f o row ps zero a b h = refl
 told ks f o [] ps (suc m) a b h = absurd (omega arith)
 told ks f o (c ∷ row) [] (suc m) a b h = absurd (omega arith)
 told ks f o (c ∷ row) (p ∷ ps) (suc m) a b h =
-    ap₂ {C = List ℕ} (λ (u : ℕ) (r : List ℕ). u ∷ r) (get_d_map0 f o ks p ∙ ap f (sym (h 0 (omega arith)))) (told ks f o row ps m (omega arith) (omega arith) (λ i l. h (suc i) (omega arith)))
+    ap₂ {C = List ℕ} (λ (u : ℕ) (r : List ℕ). u ∷ r) (get_or_map0 f o ks p ∙ ap f (sym (h 0 (omega arith)))) (told ks f o row ps m (omega arith) (omega arith) (λ i l. h (suc i) (omega arith)))
 
 -- the row's answer, put back, is the coefficients' answer
 module _ (ks row : List ℤ) (ps : List ℕ) (m : ℕ) (K : Kept ks row ps m (length ks)) (a : m ≤ length row) (b : m ≤ length ps) where

@@ -17,7 +17,7 @@ use table::{longest, placed};
 use terms::Place;
 use trails::search;
 
-#[derive(Drop)]
+#[derive(Clone, Copy)]
 pub struct Found {
     pub hit: bool,
     pub x: [u16; Place::MOST],

@@ -4,7 +4,7 @@ ghost use Rattle.search.specs.Table.{Larger, Length, Longest, Placed};
 ghost use Rattle.std.specs.Prelude.{◌≤ℤ◌};
 
 // The positions of 0, lo and hi, and how many positions there are.
-#[derive(Drop)]
+#[derive(Clone, Copy)]
 pub struct Table {
     pub start: usize,
     pub size: usize,

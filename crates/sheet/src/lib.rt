@@ -12,20 +12,20 @@ use refusals::{Check, Refusal};
 use rows::{tokens_from, weights_from};
 use terms::{Place, Transition, among};
 
-#[derive(Drop)]
+#[derive(Clone, Copy)]
 pub struct Weights {
     pub answer: Check,
     pub taken: [u8; Place::MOST],
     pub put: [u8; Place::MOST],
 }
 
-#[derive(Drop)]
+#[derive(Clone, Copy)]
 pub struct Start {
     pub answer: Check,
     pub tokens: [u16; Place::MOST],
 }
 
-#[derive(Drop)]
+#[derive(Clone, Copy)]
 pub struct Target {
     pub answer: Check,
     pub kind: Kind,

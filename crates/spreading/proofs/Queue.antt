@@ -230,10 +230,10 @@ unfolding zeros
 zeros_all zero = refl
 zeros_all (suc n) = ap suc (zeros_all n)
 
-get_d_zeros : (n i : ℕ) → ◌≡◌ {A = ℕ} (get_or (replicate n 0) i 0) 0
-get_d_zeros zero i = refl
-get_d_zeros (suc n) zero = refl
-get_d_zeros (suc n) (suc i) = get_d_zeros n i
+get_or-zeros : (n i : ℕ) → ◌≡◌ {A = ℕ} (get_or (replicate n 0) i 0) 0
+get_or-zeros zero i = refl
+get_or-zeros (suc n) zero = refl
+get_or-zeros (suc n) (suc i) = get_or-zeros n i
 
 -- the start alone
 module _ (ks : List ℤ) (m q : List ℕ) (s : ℕ) (sl : s < length m) (qm : length m ≤ length q) (z : m ≡ replicate (length m) 0) where
@@ -244,7 +244,7 @@ module _ (ks : List ℤ) (m q : List ℕ) (s : ℕ) (sl : s < length m) (qm : le
   q₁ = set q 0 s
 
   blank : (v : ℕ) → get_or m v 0 ≡ 0
-  blank v = ap (λ (l : List ℕ). get_or l v 0) z ∙ get_d_zeros (length m) v
+  blank v = ap (λ (l : List ℕ). get_or l v 0) z ∙ get_or-zeros (length m) v
 
   here : get_or q₁ 0 0 ≡ s
   unfolding q₁
@@ -266,12 +266,12 @@ module _ (ks : List ℤ) (m q : List ℕ) (s : ℕ) (sl : s < length m) (qm : le
         L = replicate (length q) 0;
         long = length-replicate (length q) 0 ∙ sym (length-set q 0 s);
         count = simp length-set (omega (arith, zeros-set m s 254 sl (blank s), ap zeros z, zeros_all (length m)));
-        first = get_d_zeros (length q) 0;
+        first = get_or-zeros (length q) 0;
         marked = λ i l. let e : i ≡ 0 = omega arith in rw (e, here, marked₁) (omega arith);
         listed = λ v h. listed₁ v (ℕ_discrete v s) h;
         from = λ i z l. absurd (omega arith);
-        sorted = λ i j h l. omega (arith, get_d_zeros (length q) i);
-        ahead = λ j h l. omega (arith, get_d_zeros (length q) j);
+        sorted = λ i j h l. omega (arith, get_or-zeros (length q) i);
+        ahead = λ j h l. omega (arith, get_or-zeros (length q) j);
         done = λ i k v h kl s l. absurd (omega arith);
         doing = λ k v h s l. absurd (omega arith);
       }

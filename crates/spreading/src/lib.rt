@@ -8,7 +8,7 @@ ghost use Rattle.spreading.specs.State.{Next, State, Sizes, Visited, Expanded, R
 use terms::wide16;
 
 // The queue's entry that was looked for.
-#[derive(Drop)]
+#[derive(Clone, Copy)]
 pub enum Reached {
     At(usize),
     Nowhere,

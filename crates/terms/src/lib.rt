@@ -37,7 +37,7 @@ pub fn among(i: usize, count: usize) -> bool
 }
 
 // A work area that judging borrows.
-#[derive(Drop)]
+#[derive(Clone, Copy)]
 pub struct Area {}
 
 impl Area {
@@ -56,7 +56,7 @@ impl Area {
 }
 
 // The area into which a listing is written: the longest has fewer bytes.
-#[derive(Drop)]
+#[derive(Clone, Copy)]
 pub struct Text {}
 
 impl Text {
@@ -64,7 +64,7 @@ impl Text {
 }
 
 // A list of transitions that one call fires.
-#[derive(Drop)]
+#[derive(Clone, Copy)]
 pub struct Firings {}
 
 impl Firings {

@@ -12,7 +12,7 @@ use terms::{Firings, Transition};
 use walk::{Marking, step_in};
 
 // The position is that of the refused step, counted from 1, and 0 where no step was refused.
-#[derive(Drop)]
+#[derive(Clone, Copy)]
 pub struct Traced {
     pub position: usize,
     pub answer: Check,

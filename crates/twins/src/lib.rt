@@ -19,7 +19,7 @@ use refusals::{Check, Refusal};
 use rows::numbers_at;
 use terms::{Claim, Place, among};
 
-#[derive(Drop)]
+#[derive(Clone, Copy)]
 pub struct Reduced {
     pub answer: Check,
     pub coefficients: [i8; Place::MOST],
@@ -27,7 +27,7 @@ pub struct Reduced {
 }
 
 // The lowest earlier claim that is a twin, or none.
-#[derive(Drop)]
+#[derive(Clone, Copy)]
 pub enum Twin {
     First(Claim),
     Without,

@@ -21,13 +21,13 @@ pub struct Marking {
     pub tokens: [u16; Place::MOST],
 }
 
-#[derive(Drop)]
+#[derive(Clone, Copy)]
 pub struct Begun {
     pub answer: Check,
     pub marking: Marking,
 }
 
-#[derive(Drop)]
+#[derive(Clone, Copy)]
 pub struct Moved {
     pub answer: Check,
     pub marking: Marking,

@@ -3,7 +3,7 @@ use mathlib.Core.Path.{◌≡◌, ◌∙◌, sym, ap}
 use native.Mathlib.Omega.{arith}
 use lib.ListN.{length, set}
 use Rattle.nets.specs.Nets.{◌⊞◌}
-use Rattle.nets.proofs.Vectors.{length_plus, get_d_plus}
+use Rattle.nets.proofs.Vectors.{length_plus, get_or-plus}
 use Rattle.rows.proofs.Filled.{filled_step, filled_all, sixteen_full}
 use Rattle.crossing.proofs.window.beside.Goals as goal
 
@@ -13,7 +13,7 @@ loop-p-preserved c =
     let t = c.args.taken in
     let x = c.args.x in
     let same : length t ≡ length x = omega arith in
-    (omega arith, ap (λ r. set r l.p c.sum.result) l.invariant.1 ∙ filled_step 0 (t ⊞ x) l.p c.sum.result (omega (arith, length_plus t x same)) (omega arith) (get_d_plus t x l.p same ∙ sym c.sum.ensures))
+    (omega arith, ap (λ r. set r l.p c.sum.result) l.invariant.1 ∙ filled_step 0 (t ⊞ x) l.p c.sum.result (omega (arith, length_plus t x same)) (omega arith) (get_or-plus t x l.p same ∙ sym c.sum.ensures))
 
 pub returns : goal.returns
 returns c =
