@@ -15,7 +15,7 @@ use Rattle.nets.proofs.Vectors.{get_or-plus, room-length}
 use Rattle.nets.proofs.Theorem1.{bad_beside, kept_exactly}
 use Rattle.format.specs.Formed.{IsWeight}
 use Rattle.format.specs.Reading.{transition_in}
-use Rattle.format.proofs.Everywhere.{all_get_d}
+use Rattle.format.proofs.Everywhere.{all_get_or}
 use Rattle.search.specs.Searched.{Hit, Best, Without, Ends}
 use Rattle.values.specs.Ready.{Ready, space}
 use Rattle.values.proofs.Bounds.{taken_range, put_range}
@@ -70,7 +70,7 @@ module _ (ks : List ℤ) (c : ℤ) (s : List ℕ) (n at : ℕ) (r : Ready ks c s
               omega (
                 arith,
                 get_or-plus t.taken (take n x) p beside_same,
-                leb-true (get_or t.taken p 0) 9 (all_get_d IsWeight 0 refl t.taken p r.weights.taken.each),
+                leb-true (get_or t.taken p 0) 9 (all_get_or IsWeight 0 refl t.taken p r.weights.taken.each),
                 take_at_most n x p,
                 b.bounded p,
               );

@@ -29,11 +29,11 @@ module _ {A : Type 0} (P : A → Type 0) where
   all_if Q imp [] a = tt
   all_if Q imp (x ∷ xs) a = (imp x a.0, all_if Q imp xs a.1)
 
-  pub all_get_d : (d : A) → P d → (xs : List A) (i : ℕ) → All P xs → P (get_or xs i d)
+  pub all_get_or : (d : A) → P d → (xs : List A) (i : ℕ) → All P xs → P (get_or xs i d)
   unfolding All
-  all_get_d d p [] i a = p
-  all_get_d d p (x ∷ xs) zero a = a.0
-  all_get_d d p (x ∷ xs) (suc i) a = all_get_d d p xs i a.1
+  all_get_or d p [] i a = p
+  all_get_or d p (x ∷ xs) zero a = a.0
+  all_get_or d p (x ∷ xs) (suc i) a = all_get_or d p xs i a.1
 
 module _ {A B : Type 0} (P : A → Type 0) where
   pub all_map : (Q : B → Type 0) (f : A → B) → ((x : A) → P x → Q (f x)) → (xs : List A) → All P xs → All Q (map f xs)

@@ -13,7 +13,7 @@ use Rattle.format.specs.Read.{sound}
 use Rattle.format.specs.Reading.{byte, word, signed_word, bytes, words, marked_at, whole_at, opened_at, each_fits}
 use Rattle.format.specs.Formed.{All, IsSheet, Row, IsTokens, IsCoefficient}
 use Rattle.format.specs.Encoding.{joined, word_bytes, signed_byte, signed_bytes}
-use Rattle.format.proofs.Everywhere.{all_map, all_get_d, map_back, length-joined}
+use Rattle.format.proofs.Everywhere.{all_map, all_get_or, map_back, length-joined}
 use Rattle.format.proofs.Standing.{Stands, stands-append, stands_left, stands_right, stands_fits, length-bytes, stands-bytes, bytes_stand}
 use Rattle.format.proofs.Parts.{parts, tests}
 use Rattle.format.proofs.Numbers.{byte_back, coefficient_back, unsigned, bytes_unsigned, constant_bytes, constant_back}
@@ -90,7 +90,7 @@ module _ (s : List ℕ) where
 -- and the numbers stand there
 module _ (s : List ℕ) (small : IsSheet s) where
   byte_small : (at : ℕ) → byte s at < 256
-  byte_small at = all_get_d (λ b. b < 256) 0 (omega arith) s at small
+  byte_small at = all_get_or (λ b. b < 256) 0 (omega arith) s at small
 
   bytes_small : (at n : ℕ) → IsSheet (bytes s at n)
   unfolding bytes All
