@@ -1,6 +1,6 @@
 """Gives tests/c/requests.c many requests in one run, and holds its answers to the lines of the second program.
 
-Where an emulator runs the program, a start takes far longer than a request.
+A start of the program takes longer than a request.
 """
 
 import re

@@ -71,7 +71,7 @@ def strays(files: list[str]) -> list[str]:
 
 def unnamed(files: list[str]) -> list[str]:
     """Below tests/ and the like a file may have any name, so it counts as a stray where nothing uses or mentions it."""
-    open_names = [file for file in files if re.match(r"(?:tests|bench|examples|include|scripts)/", file)]
+    open_names = [file for file in files if re.match(r"(?:tests|bench|examples|include|scripts|tools)/", file)]
     texts = {file: (ROOT / file).read_text("utf-8", "replace") for file in files}
 
     def named(file: str) -> bool:

@@ -28,7 +28,7 @@ static void make_pattern(void) {
   }
 }
 
-/* In small parts, because under an emulator a large one may take as long as a byte at a time. */
+/* In small parts, as this once ran under an emulator, where a large one took as long as a byte at a time. */
 static void fill_areas(void) {
   for (size_t at = 0; at < KRUNVEDO_AREA + BEHIND; at += PART) {
     memcpy(marks + at, fresh_marks + at, PART * sizeof marks[0]);

@@ -13,7 +13,7 @@ static void open_line(const char *call, size_t asked, krunvedo_refused refusal) 
 
 static void end_line(void) { printf("\n"); }
 
-/* A number of a row, behind a space: most that is printed. By hand, because under an emulator printf takes several times as long. */
+/* A number of a row, behind a space: most that is printed. By hand, which takes a part of printf's time. */
 static void number(int n) {
   char digits[8];
   size_t at = sizeof digits;
