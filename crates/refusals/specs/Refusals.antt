@@ -1,51 +1,51 @@
 -- Refusals: document 01, "Numbers that say no". Each has its number and a detail.
-use Rattle.std.specs.Prelude.{ℕ}
+use Rattle.std.specs.Prelude.{ℕ, Result}
 use Rattle.terms.specs.Limits.{text_size}
-use Rattle.terms.specs.declared.Place.{Place}
-use Rattle.terms.specs.declared.Transition.{Transition}
-use Rattle.terms.specs.declared.Claim.{Claim}
 use Rattle.refusals.specs.declared.Refusal.{Refusal}
-use Rattle.refusals.specs.declared.Detail.{Detail}
-use Rattle.refusals.specs.declared.Detail.TheVariants.{Byte, Length, OfClaim, OfTransition, OfPlace, Nothing}
+use Rattle.refusals.specs.declared.Refusal.TheVariants.{Cut, Mark, Size, Weight, Kind, Coefficient, Constant, TooManyClaims, NoClaim, NotAClaim, NotATransition, SmallArea, NotEnabled, TooManyTokens, LongList, AllZero, SmallText}
 
--- the number that the table gives as a detail
-abbrev pub detail_of : Detail → ℕ
-detail_of (Byte at) = at
-detail_of (Length n) = n
-detail_of (OfClaim i) = i.0
-detail_of (OfTransition t) = t.0
-detail_of (OfPlace p) = p.0
-detail_of Nothing = 0
+-- Each is given by its number. 17 and 19 are numbers that 02 brings, and 18 is.
+abbrev pub number_of : Refusal → ℕ
+number_of (Cut at) = 1
+number_of (Mark at) = 2
+number_of (Size at) = 3
+number_of (Weight at) = 4
+number_of (Kind at) = 5
+number_of (Coefficient at) = 6
+number_of (Constant at) = 7
+number_of (TooManyClaims at) = 8
+number_of (NoClaim n) = 9
+number_of (NotAClaim i) = 11
+number_of (NotATransition t) = 12
+number_of SmallArea = 13
+number_of (NotEnabled p) = 15
+number_of (TooManyTokens p) = 16
+number_of (LongList n) = 17
+number_of (AllZero at) = 18
+number_of SmallText = 19
 
--- the refusal `number` at the byte `at`, counted from 0
-abbrev pub refused_at : ℕ → ℕ → Refusal
-refused_at number at = record { number = number; detail = Byte at }
+-- the number that the table gives as a detail: the byte of the fault, counted from 0, up to 8 and for 18; 9, with the sheet's length: no claim follows TG;
+-- 11 and 12, with the number asked; 13, with 0; 15, with the lowest place that is short; 16, with the lowest place that would pass 65,535;
+-- 17, with the list's length; 19, with the length needed
+abbrev pub detail_of : Refusal → ℕ
+detail_of (Cut at) = at
+detail_of (Mark at) = at
+detail_of (Size at) = at
+detail_of (Weight at) = at
+detail_of (Kind at) = at
+detail_of (Coefficient at) = at
+detail_of (Constant at) = at
+detail_of (TooManyClaims at) = at
+detail_of (NoClaim n) = n
+detail_of (NotAClaim i) = i.0
+detail_of (NotATransition t) = t.0
+detail_of SmallArea = 0
+detail_of (NotEnabled p) = p.0
+detail_of (TooManyTokens p) = p.0
+detail_of (LongList n) = n
+detail_of (AllZero at) = at
+detail_of SmallText = text_size
 
--- 9, with the sheet's length: no claim follows TG; 11, with the claim number asked; 12, with the transition number asked
-abbrev pub claimless : ℕ → Refusal
-claimless n = record { number = 9; detail = Length n }
-
-abbrev pub not_a_claim : Claim → Refusal
-not_a_claim i = record { number = 11; detail = OfClaim i }
-
-abbrev pub not_a_transition : Transition → Refusal
-not_a_transition t = record { number = 12; detail = OfTransition t }
-
--- 13, with 0: a work area is too small
-abbrev pub small_area : Refusal
-small_area = record { number = 13; detail = Nothing }
-
--- 15, with the lowest place that is short; 16, with the lowest place that would pass 65,535
-abbrev pub not_enabled : Place → Refusal
-not_enabled p = record { number = 15; detail = OfPlace p }
-
-abbrev pub too_many : Place → Refusal
-too_many p = record { number = 16; detail = OfPlace p }
-
--- 17, with its length: the list is longer than 64 (a number that 02 brings)
-abbrev pub long_list : ℕ → Refusal
-long_list length = record { number = 17; detail = Length length }
-
--- 19, with the length needed: the area for a listing's text is too short (a number that 02 brings)
-abbrev pub small_text : Refusal
-small_text = record { number = 19; detail = Length text_size }
+-- what a test answers: nothing is refused, or this is
+abbrev pub Check : Type 0
+Check = Result (Unit {0}) Refusal

@@ -2,126 +2,88 @@
 #![tactic(auto)]
 
 ghost use Rattle.std.specs.Prelude.{◌≡◌};
-ghost use Rattle.refusals.specs.Refusals.{detail_of, refused_at, not_a_claim, not_a_transition, small_area, not_enabled, too_many, long_list, small_text};
+ghost use Rattle.refusals.specs.Refusals.{number_of, detail_of};
 
 use terms::{Claim, Place, Text, Transition};
 
-// What a refusal's detail counts.
-#[derive(Clone, Copy)]
-pub enum Detail {
-    Byte(usize),
-    Length(usize),
-    OfClaim(Claim),
-    OfTransition(Transition),
-    OfPlace(Place),
-    Nothing,
-}
-
-#[derive(Clone, Copy)]
-pub struct Refusal {
-    pub number: u8,
-    pub detail: Detail,
+// Why a call says no. Up to `TooManyClaims`, and in `AllZero`, it carries the byte place of the fault, counted from 0.
+#[derive(Clone, Copy, Debug, PartialEq, Eq)]
+pub enum Refusal {
+    // The sheet ends within the record that begins there, or within its mark.
+    Cut(usize),
+    // Another record is due there.
+    Mark(usize),
+    // The number of places or of transitions is out of range.
+    Size(usize),
+    Weight(usize),
+    Kind(usize),
+    Coefficient(usize),
+    Constant(usize),
+    // A claim's record that is one too many begins there.
+    TooManyClaims(usize),
+    // No claim follows the target; with the sheet's length.
+    NoClaim(usize),
+    NotAClaim(Claim),
+    NotATransition(Transition),
+    // A work area is too small.
+    SmallArea,
+    // The lowest place that has fewer tokens than are taken.
+    NotEnabled(Place),
+    // The lowest place that would pass the most tokens.
+    TooManyTokens(Place),
+    // A list is too long; with its length.
+    LongList(usize),
+    // Every coefficient of the claim whose record begins there is zero.
+    AllZero(usize),
+    // The area for a text is too short.
+    SmallText,
 }
 
 impl Refusal {
-    pub fn at_byte(number: u8, at: usize) -> Refusal
-        ensures { result ≡ refused_at number at }
+    pub fn number(self) -> u8
+        ensures { result ≡ number_of self }
     {
-        Refusal {
-            number,
-            detail: Detail::Byte(at),
+        match self {
+            Refusal::Cut(_) => 1,
+            Refusal::Mark(_) => 2,
+            Refusal::Size(_) => 3,
+            Refusal::Weight(_) => 4,
+            Refusal::Kind(_) => 5,
+            Refusal::Coefficient(_) => 6,
+            Refusal::Constant(_) => 7,
+            Refusal::TooManyClaims(_) => 8,
+            Refusal::NoClaim(_) => 9,
+            Refusal::NotAClaim(_) => 11,
+            Refusal::NotATransition(_) => 12,
+            Refusal::SmallArea => 13,
+            Refusal::NotEnabled(_) => 15,
+            Refusal::TooManyTokens(_) => 16,
+            Refusal::LongList(_) => 17,
+            Refusal::AllZero(_) => 18,
+            Refusal::SmallText => 19,
         }
     }
 
-    pub fn no_claim(i: Claim) -> Refusal
-        ensures { result ≡ not_a_claim i }
+    // The detail that goes with the number; for a small text the length that is needed.
+    pub fn detail(self) -> usize
+        ensures { result ≡ detail_of self }
     {
-        Refusal {
-            number: 11,
-            detail: Detail::OfClaim(i),
+        match self {
+            Refusal::Cut(at)
+            | Refusal::Mark(at)
+            | Refusal::Size(at)
+            | Refusal::Weight(at)
+            | Refusal::Kind(at)
+            | Refusal::Coefficient(at)
+            | Refusal::Constant(at)
+            | Refusal::TooManyClaims(at)
+            | Refusal::AllZero(at) => at,
+            Refusal::NoClaim(length) | Refusal::LongList(length) => length,
+            Refusal::NotAClaim(claim) => claim.0,
+            Refusal::NotATransition(transition) => transition.0,
+            Refusal::NotEnabled(place) | Refusal::TooManyTokens(place) => place.0,
+            Refusal::SmallArea => 0,
+            Refusal::SmallText => Text::SIZE,
         }
     }
-
-    pub fn no_transition(t: Transition) -> Refusal
-        ensures { result ≡ not_a_transition t }
-    {
-        Refusal {
-            number: 12,
-            detail: Detail::OfTransition(t),
-        }
-    }
-
-    pub fn small_area() -> Refusal
-        ensures { result ≡ small_area }
-    {
-        Refusal {
-            number: 13,
-            detail: Detail::Nothing,
-        }
-    }
-
-    pub fn not_enabled(short: Place) -> Refusal
-        ensures { result ≡ not_enabled short }
-    {
-        Refusal {
-            number: 15,
-            detail: Detail::OfPlace(short),
-        }
-    }
-
-    pub fn too_many(over: Place) -> Refusal
-        ensures { result ≡ too_many over }
-    {
-        Refusal {
-            number: 16,
-            detail: Detail::OfPlace(over),
-        }
-    }
-
-    pub fn long_list(length: usize) -> Refusal
-        ensures { result ≡ long_list length }
-    {
-        Refusal {
-            number: 17,
-            detail: Detail::Length(length),
-        }
-    }
-
-    pub fn small_text() -> Refusal
-        ensures { result ≡ small_text }
-    {
-        Refusal {
-            number: 19,
-            detail: Detail::Length(Text::SIZE),
-        }
-    }
-
-    // The detail as a number, to print it.
-    pub fn value(self) -> usize
-        ensures { result ≡ detail_of self.detail }
-    {
-        let detail = self.detail;
-        match detail {
-            Detail::Byte(at) => at,
-            Detail::Length(n) => n,
-            Detail::OfClaim(i) => i.0,
-            Detail::OfTransition(t) => t.0,
-            Detail::OfPlace(p) => p.0,
-            Detail::Nothing => 0,
-        }
-    }
-}
-
-// A part of a sheet is fine, or refused at its first fault.
-#[derive(Clone, Copy)]
-pub enum Check {
-    Fine,
-    Refused(Refusal),
-}
-
-// A part of a sheet refused at a byte.
-pub fn refuse(number: u8, at: usize) -> Check
-    ensures { result ≡ Check.Refused (refused_at number at) }
-{
-    Check::Refused(Refusal::at_byte(number, at))
 }

@@ -5,13 +5,13 @@ ghost use Rattle.std.specs.Prelude.{◌≡◌, ◌≤◌, nat_abs};
 ghost use Rattle.terms.specs.Limits.{among as is_among, areas_fit};
 
 // Places, transitions and claims are counted apart, each from 1: none is ever taken for another.
-#[derive(Clone, Copy)]
+#[derive(Clone, Copy, Debug, PartialEq, Eq)]
 pub struct Place(pub usize);
 
-#[derive(Clone, Copy)]
+#[derive(Clone, Copy, Debug, PartialEq, Eq)]
 pub struct Transition(pub usize);
 
-#[derive(Clone, Copy)]
+#[derive(Clone, Copy, Debug, PartialEq, Eq)]
 pub struct Claim(pub usize);
 
 impl Place {
@@ -33,7 +33,7 @@ impl Claim {
 pub fn among(i: usize, count: usize) -> bool
     ensures { result ≡ is_among i count }
 {
-    if i < 1 { false } else { i <= count }
+    (1..=count).contains(&i)
 }
 
 // A work area that judging borrows.
@@ -47,11 +47,7 @@ impl Area {
     pub fn fit(marks: usize, queue: usize) -> bool
         ensures { result ≡ areas_fit marks queue }
     {
-        if marks < Area::SIZE {
-            false
-        } else {
-            Area::SIZE <= queue
-        }
+        Area::SIZE <= marks && Area::SIZE <= queue
     }
 }
 
