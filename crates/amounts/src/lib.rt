@@ -2,22 +2,14 @@
 #![tactic(auto)]
 
 ghost use Rattle.std.specs.Prelude.{◌≡◌};
-ghost use Rattle.signed.specs.Twos.{twos8, twos16};
 ghost use Rattle.terms.specs.Limits.{weight_fits, coefficient_fits, constant_fits};
-ghost use Rattle.amounts.specs.Kinds.{kind_of_byte};
 
 // A weight taken or put.
-#[derive(Clone, Copy)]
+#[derive(Clone, Copy, Debug, PartialEq, Eq)]
 pub struct Weight(pub u8);
 
 impl Weight {
     pub const MOST: u8 = 9;
-
-    pub fn of_byte(b: u8) -> Weight
-        ensures { result.0 ≡ b }
-    {
-        Weight(b)
-    }
 
     pub fn fits(self) -> bool
         ensures { result ≡ weight_fits self.0 }
@@ -26,8 +18,16 @@ impl Weight {
     }
 }
 
+impl From<u8> for Weight {
+    ghost from_gives = { λ b w. w.0 ≡ b };
+
+    fn from(byte: u8) -> Weight {
+        Weight(byte)
+    }
+}
+
 // Kind 0 is one exact marking; kind 1 is every marking at or above it in each place.
-#[derive(Clone, Copy)]
+#[derive(Clone, Copy, Debug, PartialEq, Eq)]
 pub enum Kind {
     Exact,
     AtOrAbove,
@@ -35,16 +35,23 @@ pub enum Kind {
 
 impl Kind {
     pub const MOST: u8 = 1;
+}
 
-    pub fn of_byte(b: u8) -> Kind
-        ensures { result ≡ kind_of_byte b }
-    {
-        if b == 0 { Kind::Exact } else { Kind::AtOrAbove }
+impl From<u8> for Kind {
+    ghost use Rattle.amounts.specs.Kinds.{kind_of_byte};
+
+    ghost from_gives = { λ b kind. kind ≡ kind_of_byte b };
+
+    fn from(byte: u8) -> Kind {
+        match byte {
+            0 => Kind::Exact,
+            _ => Kind::AtOrAbove,
+        }
     }
 }
 
 // A coefficient of a half space, read from its byte as two's complement.
-#[derive(Clone, Copy)]
+#[derive(Clone, Copy, Debug, PartialEq, Eq)]
 pub struct Coefficient(pub i8);
 
 impl Coefficient {
@@ -52,33 +59,25 @@ impl Coefficient {
 
     pub const MOST: i8 = 100;
 
-    pub fn of_byte(b: u8) -> Coefficient
-        ensures { result.0 ≡ twos8 b }
-    {
-        if b < 128 {
-            let k = b as i8;
-            Coefficient(k)
-        } else {
-            let w = b as i16;
-            let d = w - 256;
-            let k = d as i8;
-            Coefficient(k)
-        }
-    }
-
     pub fn fits(self) -> bool
         ensures { result ≡ coefficient_fits self.0 }
     {
-        if self.0 < Coefficient::LEAST {
-            false
-        } else {
-            self.0 <= Coefficient::MOST
-        }
+        Coefficient::LEAST <= self.0 && self.0 <= Coefficient::MOST
+    }
+}
+
+impl From<u8> for Coefficient {
+    ghost use Rattle.signed.specs.Twos.{twos8};
+
+    ghost from_gives = { λ b k. k.0 ≡ twos8 b };
+
+    fn from(byte: u8) -> Coefficient {
+        Coefficient(byte.cast_signed())
     }
 }
 
 // The constant of a half space, read from its two bytes as two's complement, the low byte first.
-#[derive(Clone, Copy)]
+#[derive(Clone, Copy, Debug, PartialEq, Eq)]
 pub struct Constant(pub i16);
 
 impl Constant {
@@ -86,28 +85,20 @@ impl Constant {
 
     pub const MOST: i16 = 5000;
 
-    pub fn of_bytes(lo: u8, hi: u8) -> Constant
-        ensures { result.0 ≡ twos16 lo hi }
-    {
-        let v = (lo as u32) + 256 * (hi as u32);
-        if hi < 128 {
-            let c = v as i16;
-            Constant(c)
-        } else {
-            let w = v as i32;
-            let d = w - 65536;
-            let c = d as i16;
-            Constant(c)
-        }
-    }
-
     pub fn fits(self) -> bool
         ensures { result ≡ constant_fits self.0 }
     {
-        if self.0 < Constant::LEAST {
-            false
-        } else {
-            self.0 <= Constant::MOST
-        }
+        Constant::LEAST <= self.0 && self.0 <= Constant::MOST
+    }
+}
+
+impl From<[u8; 2]> for Constant {
+    ghost use Rattle.std.specs.Prelude.{slice_index};
+    ghost use Rattle.signed.specs.Twos.{twos16};
+
+    ghost from_gives = { λ bs c. c.0 ≡ twos16 (slice_index bs 0) (slice_index bs 1) };
+
+    fn from(bytes: [u8; 2]) -> Constant {
+        Constant(i16::from_le_bytes(bytes))
     }
 }

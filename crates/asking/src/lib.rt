@@ -1,10 +1,9 @@
 // A claim and a transition of a sheet that was read: whether some marking inside leads outside, asked of crate `crossing`.
 #![tactic(auto)]
 
-ghost use Rattle.std.specs.Prelude.{◌≡◌, ◌≤◌, length};
+ghost use Rattle.std.specs.Prelude.{◌≡◌, ◌≤◌, length, Ok};
 ghost use Rattle.lent.specs.Wiped.{Wiped};
 ghost use Rattle.nets.specs.Nets.{transition};
-ghost use Rattle.format.specs.Read.{sound};
 ghost use Rattle.format.specs.Contents.{Contents, half_space, claim};
 ghost use Rattle.format.specs.Reading.{reading};
 ghost use Rattle.crossing.specs.Crosses.{Crosses};
@@ -28,7 +27,7 @@ fn ask_in(
 ) -> Crossing
     requires asked { Asked sheet.now counts i t }
     requires marks_len { (length marks.old ≡ 20000) × (length queue.old ≡ 20000) }
-    ensures { (x : Contents) → reading sheet.now ≡ sound x → Crosses (half_space (claim x i)) (transition x.setting.net t) result.hit result.marking }
+    ensures { (x : Contents) → reading sheet.now ≡ Ok x → Crosses (half_space (claim x i)) (transition x.setting.net t) result.hit result.marking }
 {
     let n = counts.places;
     let from = behind_claims(n, counts.transitions, i - 1);
@@ -49,7 +48,7 @@ pub fn ask(
 ) -> Crossing
     requires asked { Asked sheet.now counts i t }
     requires in_bounds { (20000 ≤ length marks.old) × (20000 ≤ length queue.old) }
-    ensures crosses { (x : Contents) → reading sheet.now ≡ sound x → Crosses (half_space (claim x i)) (transition x.setting.net t) result.hit result.marking }
+    ensures crosses { (x : Contents) → reading sheet.now ≡ Ok x → Crosses (half_space (claim x i)) (transition x.setting.net t) result.hit result.marking }
     ensures wiped { Wiped 20000 marks.old marks.new × Wiped 20000 queue.old queue.new }
 {
     let crossing = ask_in(

@@ -1,9 +1,9 @@
 -- The record of claim i as a part of the caller's own sheet: document 01, "Half spaces and verdicts".
-use Rattle.std.specs.Prelude.{◌≡◌, List, [], ℕ, ◌+◌, length}
+use Rattle.std.specs.Prelude.{◌≡◌, List, [], ℕ, ◌+◌, length, Err, Ok}
 use Rattle.std.specs.Borrow.{Bor}
 use Rattle.terms.specs.Limits.{among}
 use Rattle.terms.specs.declared.Claim.{Claim}
-use Rattle.format.specs.Read.{Read, sound, refused, choose}
+use Rattle.format.specs.Read.{Read, choose}
 use Rattle.format.specs.Contents.{Contents, claim}
 use Rattle.format.specs.Encoding.{claim_bytes, record_from}
 
@@ -15,9 +15,9 @@ pub record IsPart (part whole : Bor (List ℕ)) (at : ℕ) (bs : List ℕ) : Typ
 
 -- where the record starts, and its bytes, the mark included; a refusal gives a part of length 0 at the sheet's start
 abbrev pub record_at : Read Contents → Claim → ℕ
-record_at (refused r) i = 0
-record_at (sound x) i = choose (among i.0 (length x.claims)) (record_from x i.0) 0
+record_at (Err r) i = 0
+record_at (Ok x) i = choose (among i.0 (length x.claims)) (record_from x i.0) 0
 
 abbrev pub record_bytes : Read Contents → Claim → List ℕ
-record_bytes (refused r) i = []
-record_bytes (sound x) i = choose (among i.0 (length x.claims)) (claim_bytes (claim x i.0)) []
+record_bytes (Err r) i = []
+record_bytes (Ok x) i = choose (among i.0 (length x.claims)) (claim_bytes (claim x i.0)) []

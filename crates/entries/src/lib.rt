@@ -1,8 +1,7 @@
 // The text of a sheet's listing, in areas of the very size that judging needs.
 #![tactic(auto)]
 
-ghost use Rattle.std.specs.Prelude.{◌≡◌, List, ℕ, ◌+◌, ◌≤◌, length};
-ghost use Rattle.format.specs.Read.{sound};
+ghost use Rattle.std.specs.Prelude.{◌≡◌, List, ℕ, ◌+◌, ◌≤◌, length, Ok};
 ghost use Rattle.format.specs.Contents.{Contents};
 ghost use Rattle.format.specs.Reading.{reading};
 ghost use Rattle.known.specs.Known.{Known};
@@ -27,7 +26,7 @@ fn line(
 ) -> usize
     requires known { Known sheet.now counts × (1 ≤ i) × (i ≤ counts.claims) }
     requires marks_len { (length marks.old ≡ 20000) × (length queue.old ≡ 20000) × (at + 125 ≤ length text.old) }
-    ensures by_index { (x : Contents) → reading sheet.now ≡ sound x → (bs : List ℕ) × IsLine x i bs × Wrote bs text.old at text.new result }
+    ensures by_index { (x : Contents) → reading sheet.now ≡ Ok x → (bs : List ℕ) × IsLine x i bs × Wrote bs text.old at text.new result }
     ensures upper_bound { result ≤ at + 125 }
 {
     let judged = judge_claim(sheet, counts, i, marks, queue);
@@ -45,7 +44,7 @@ pub fn all_lines(
 ) -> usize
     requires known { Known sheet.now counts }
     requires marks_len { (length marks.old ≡ 20000) × (length queue.old ≡ 20000) × (4096 ≤ length text.old) }
-    ensures { (x : Contents) → reading sheet.now ≡ sound x → (bs : List ℕ) × IsListing x bs × Wrote bs text.old 0 text.new result }
+    ensures { (x : Contents) → reading sheet.now ≡ Ok x → (bs : List ℕ) × IsListing x bs × Wrote bs text.old 0 text.new result }
 {
     let mut end = counts_line(text, 0, counts);
     let mut i = 0;

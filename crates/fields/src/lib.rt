@@ -1,6 +1,7 @@
 // The fields of a record, of one kind each, within their limits.
 #![tactic(auto)]
 
+ghost use Rattle.refusals.specs.declared.Refusal.TheVariants as refused;
 ghost use Rattle.std.specs.Prelude.{◌≡◌, map, ◌+◌, ◌≤◌, length};
 ghost use Rattle.signed.specs.Twos.{twos8};
 ghost use Rattle.terms.specs.Limits.{weight_fits, coefficient_fits, constant_fits};
@@ -15,7 +16,7 @@ use refusals::{Check, refuse};
 // So many weights, from a byte on.
 pub fn weights(s: &[u8], from: usize, count: usize) -> Check
     requires { from + count ≤ length s.now }
-    ensures { result ≡ checked (each_fits weight_fits 4 s.now from count) }
+    ensures { result ≡ checked (each_fits weight_fits refused.Weight s.now from count) }
 {
     let end = from + count;
     let mut at = from;
@@ -31,7 +32,7 @@ pub fn weights(s: &[u8], from: usize, count: usize) -> Check
 
 pub fn coefficients(s: &[u8], from: usize, count: usize) -> Check
     requires { from + count ≤ length s.now }
-    ensures { result ≡ checked (each_fits (λ b. coefficient_fits (twos8 b)) 6 s.now from count) }
+    ensures { result ≡ checked (each_fits (λ b. coefficient_fits (twos8 b)) refused.Coefficient s.now from count) }
 {
     let end = from + count;
     let mut at = from;
@@ -47,7 +48,7 @@ pub fn coefficients(s: &[u8], from: usize, count: usize) -> Check
 
 pub fn constant(s: &[u8], at: usize) -> Check
     requires { at + 2 ≤ length s.now }
-    ensures { result ≡ checked (need (constant_fits (signed_word s.now at)) 7 at) }
+    ensures { result ≡ checked (need (constant_fits (signed_word s.now at)) (refused.Constant at)) }
 {
     let fits = Constant::of_bytes(s[at], s[at + 1]).fits();
     if !fits {
@@ -59,7 +60,7 @@ pub fn constant(s: &[u8], at: usize) -> Check
 // Is one of so many coefficients, from a byte on, other than zero? A record of zeros is refused at its first byte.
 pub fn nonzero(s: &[u8], from: usize, count: usize, first: usize) -> Check
     requires { from + count ≤ length s.now }
-    ensures { result ≡ checked (need (some_nonzero (map twos8 (bytes s.now from count))) 18 first) }
+    ensures { result ≡ checked (need (some_nonzero (map twos8 (bytes s.now from count))) (refused.AllZero first)) }
 {
     let end = from + count;
     let mut at = from;

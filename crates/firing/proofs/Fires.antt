@@ -1,4 +1,5 @@
 -- A firing place by place: each place of the net has its own sum, and the numbers beyond the net stay where they are.
+use Rattle.std.specs.Prelude.{Ok}
 use mathlib.Core.Path.{◌≡◌, sym, ap, ◌∙◌}
 use mathlib.Core.List.{List, ◌++◌, append_assoc}
 use Prim.Native.Nat.{ℕ, suc, ◌+◌, ◌-◌, ◌≤◌, ◌<◌}
@@ -11,7 +12,6 @@ use Rattle.nets.specs.Nets.{Transition, Marking, ◌⊟◌, fire}
 use Rattle.nets.proofs.Vectors.{length_plus, get_or-plus, length_minus, get_or-minus}
 use borrow.Author.Tests.{lt-ltb, le-ltb, ltb-false}
 use Rattle.terms.specs.Limits.{most_tokens}
-use Rattle.refusals.specs.declared.Check.TheVariants.{Fine}
 use Rattle.firing.specs.Firing.{is_short, is_over, lowest_short, lowest_over, fired_in}
 use Rattle.firing.specs.Weighted.{weighted}
 use Rattle.firing.proofs.Lowest.{none_found}
@@ -62,7 +62,7 @@ module _ (n : ℕ) (tokens taken put : List ℕ) (few : n ≤ 16) (a : length to
   pub room_here : (p : ℕ) → p < n → get_or tokens p 0 - get_or taken p 0 + get_or put p 0 ≤ most_tokens → is_over (fire (weighted n taken put) (take n tokens)) p ≡ false
   room_here p l h = rw (fired_at p l) (le-ltb _ _ h)
 
-  pub room_of : (p : ℕ) → p < n → lowest_over n (fire (weighted n taken put) (take n tokens)) ≡ Fine → get_or tokens p 0 - get_or taken p 0 + get_or put p 0 ≤ most_tokens
+  pub room_of : (p : ℕ) → p < n → lowest_over n (fire (weighted n taken put) (take n tokens)) ≡ (Ok tt) → get_or tokens p 0 - get_or taken p 0 + get_or put p 0 ≤ most_tokens
   room_of p l e = ltb-false _ _ (rw (fired_at p l) at (none_found _ _ n e p l))
 
   pub fired_step : (p v : ℕ) → p < n → v ≡ get_or tokens p 0 - get_or taken p 0 + get_or put p 0 → set (so_far p (fire (weighted n taken put) (take n tokens)) tokens) p v ≡ so_far (p + 1) (fire (weighted n taken put) (take n tokens)) tokens
@@ -81,5 +81,5 @@ module _ (n : ℕ) (tokens taken : List ℕ) (p : ℕ) (l : p < n) where
   pub enough_here : get_or taken p 0 ≤ get_or tokens p 0 → is_short (take n taken) (take n tokens) p ≡ false
   enough_here h = rw (get_or-take n tokens p 0 l, get_or-take n taken p 0 l) (le-ltb _ _ h)
 
-  pub enough_of : lowest_short n (take n taken) (take n tokens) ≡ Fine → get_or taken p 0 ≤ get_or tokens p 0
+  pub enough_of : lowest_short n (take n taken) (take n tokens) ≡ (Ok tt) → get_or taken p 0 ≤ get_or tokens p 0
   enough_of e = ltb-false _ _ (rw (get_or-take n tokens p 0 l, get_or-take n taken p 0 l) at (none_found _ _ n e p l))

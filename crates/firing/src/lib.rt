@@ -1,9 +1,8 @@
 // What a firing does to each place. The first n of sixteen numbers are the net's places.
 #![tactic(auto)]
 
-ghost use Rattle.std.specs.Prelude.{◌≡◌, ◌≤◌, take};
+ghost use Rattle.std.specs.Prelude.{◌≡◌, ◌≤◌, take, Ok};
 ghost use Rattle.nets.specs.Nets.{fire};
-ghost use Rattle.refusals.specs.declared.Check.TheVariants.{Fine};
 ghost use Rattle.firing.specs.Firing.{lowest_short, lowest_over, fired_in};
 ghost use Rattle.firing.specs.Weighted.{weighted};
 

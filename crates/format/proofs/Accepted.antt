@@ -1,4 +1,5 @@
 -- The reader accepts exactly the encodings of formed contents: each record is read exactly where its bytes stand, the records stand one after the other, and the last ends the sheet.
+use Rattle.std.specs.Prelude.{Err, Ok}
 use mathlib.Core.Path.{◌≡◌, refl, sym, ap, ◌∙◌, subst}
 use mathlib.Core.Logic.{◌↔◌, ⊎_elim}
 use mathlib.Core.List.{List, [], ◌∷◌, ◌++◌}
@@ -7,11 +8,10 @@ use native.Mathlib.Omega.{arith}
 use lib.Dec.{leb}
 use lib.ListN.{length, length-append}
 use borrow.Author.Tests.{leb-false, lt-leb}
-use Rattle.refusals.specs.Refusals.{claimless}
+use Rattle.refusals.specs.declared.Refusal.TheVariants.{NoClaim}
 use Rattle.terms.specs.Limits.{most_claims}
 use Rattle.nets.specs.Nets.{Transition}
 use Rattle.nets.specs.Verdicts.{Setting}
-use Rattle.format.specs.Read.{sound, refused}
 use Rattle.format.specs.Contents.{Claim, Contents}
 use Rattle.format.specs.Reading.{Size, size_of, head_size, transition_size, start_from, target_from, claims_from, setting_of, claims_at, claims_of, reading}
 use Rattle.format.specs.Formed.{All, IsSheet, Row, IsTokens, FormedTransition, FormedSetting, Formed}
@@ -49,7 +49,7 @@ length-setting q f =
     (arith, length-append (a ++ b) (target_bytes q.target), length-append a b, length_transitions n q.net.transitions f.transitions, length-words n q.start f.start, length-words n q.target.tokens f.target)
 
 module _ (s : List ℕ) (small : IsSheet s) where
-  pub setting_read : (z : Size) (q : Setting) → setting_of s z ≡ sound q → (z ≡ size_in q) × SettingStands s q
+  pub setting_read : (z : Size) (q : Setting) → setting_of s z ≡ Ok q → (z ≡ size_in q) × SettingStands s q
   unfolding setting_of
   setting_read z q e =
       let (ts, et, (m, em, (g, eg, all))) = simp parts at e in
@@ -66,7 +66,7 @@ module _ (s : List ℕ) (small : IsSheet s) where
       subst (λ (q : Setting). (z ≡ size_in q) × SettingStands s q) (sound_same all)
       (λ i. record { n = z.n; T = count i }, record { transitions = a.1; start = b.0; target = c.0; stand = three })
 
-  pub setting-sound : (q : Setting) → SettingStands s q → setting_of s (size_in q) ≡ sound q
+  pub setting-sound : (q : Setting) → SettingStands s q → setting_of s (size_in q) ≡ Ok q
   unfolding setting_of
   setting-sound q w =
       let z : Size = size_in q in
@@ -100,25 +100,25 @@ module _ (s : List ℕ) (small : IsSheet s) where
   some_byte n at more [] h w = absurd (omega arith)
   some_byte n at more (i ∷ is) h w = w.stand.0
 
-  pub claims_exactly : (z : Size) (is : List Claim) → (claims_of s z ≡ sound is) ↔ ((1 ≤ length is) × ClaimsStand s z.n (claims_from z) most_claims is)
+  pub claims_exactly : (z : Size) (is : List Claim) → (claims_of s z ≡ Ok is) ↔ ((1 ≤ length is) × ClaimsStand s z.n (claims_from z) most_claims is)
   unfolding claims_of
   claims_exactly z is = (
     λ e. ⊎_elim
-        (λ w. absurd (never_both (claimless (length s)) is w.1))
+        (λ w. absurd (never_both (NoClaim (length s)) is w.1))
         (λ w. let c = claims_read s small z.n (claims_from z) most_claims is w.1 in
         (some_claim z.n (claims_from z) most_claims is (leb-false (length s) (claims_from z) w.0) c, c))
-        (choose_either (leb (length s) (claims_from z)) (refused (claimless (length s))) (claims_at s z.n (claims_from z) most_claims) is e),
+        (choose_either (leb (length s) (claims_from z)) (Err (NoClaim (length s))) (claims_at s z.n (claims_from z) most_claims) is e),
     λ w. rw (lt-leb (length s) (claims_from z) (some_byte z.n (claims_from z) most_claims is w.0 w.1))
         (claims_sound s small z.n (claims_from z) most_claims is w.1),
   )
 
-  pub read_formed : (x : Contents) → reading s ≡ sound x → Formed x × (s ≡ encoded x)
+  pub read_formed : (x : Contents) → reading s ≡ Ok x → Formed x × (s ≡ encoded x)
   unfolding reading encoded setting_bytes
   read_formed x e =
       let (z, ez, (q, eq, (is, ei, all))) = simp parts at e in
       let (p, front) = setting_read z q eq in
-      let head = (head_exactly s (size_in q)).0 (ez ∙ ap sound p) in
-      let claims = (claims_exactly (size_in q) is).0 (subst (λ (z : Size). claims_of s z ≡ sound is) p ei) in
+      let head = (head_exactly s (size_in q)).0 (ez ∙ ap Ok p) in
+      let claims = (claims_exactly (size_in q) is).0 (subst (λ (z : Size). claims_of s z ≡ Ok is) p ei) in
       let f : FormedSetting q = record { places = head.0; count = head.1; transitions = front.transitions; start = front.start; target = front.target } in
       let one : Stands s 0 (setting_bytes q) = stands-append s 0 head_size (head_bytes (size_in q)) (body_bytes q) refl head.2 front.stand in
       let both : Stands s 0 (setting_bytes q ++ joined claim_bytes is) =
@@ -130,7 +130,7 @@ module _ (s : List ℕ) (small : IsSheet s) where
         stands_whole s (setting_bytes q ++ joined claim_bytes is) both end,
       )
 
-  pub reads_back : (x : Contents) → Formed x → s ≡ encoded x → reading s ≡ sound x
+  pub reads_back : (x : Contents) → Formed x → s ≡ encoded x → reading s ≡ Ok x
   unfolding reading encoded setting_bytes
   reads_back x f e =
       let q : Setting = x.setting in
@@ -157,8 +157,8 @@ module _ (s : List ℕ) (small : IsSheet s) where
         (q, setting-sound q front, (is, (claims_exactly z is).1 (f.some, claims), refl)),
       )
 
-pub formed : (s : List ℕ) (x : Contents) → IsSheet s → reading s ≡ sound x → Formed x
+pub formed : (s : List ℕ) (x : Contents) → IsSheet s → reading s ≡ Ok x → Formed x
 formed s x small e = (read_formed s small x e).0
 
-pub accepted_exactly : (s : List ℕ) (x : Contents) → IsSheet s → (reading s ≡ sound x) ↔ (Formed x × (s ≡ encoded x))
+pub accepted_exactly : (s : List ℕ) (x : Contents) → IsSheet s → (reading s ≡ Ok x) ↔ (Formed x × (s ≡ encoded x))
 accepted_exactly s x small = (λ e. read_formed s small x e, λ w. reads_back s small x w.0 w.1)

@@ -1,4 +1,5 @@
 -- Where each claim's record stands, and its bytes: a sheet that is read is the encoding, where records of one size follow one another behind the setting, so in front of claim i + 1 stand the setting and i claims.
+use Rattle.std.specs.Prelude.{Ok}
 use mathlib.Core.Path.{◌≡◌, ap, ap₂, ◌∙◌, subst}
 use mathlib.Core.List.{List, [], ◌∷◌, ◌++◌, append_assoc}
 use Prim.Native.Nat.{ℕ, suc, ◌+◌, ◌-◌, ◌*◌, ◌≤◌, ◌<◌}
@@ -6,7 +7,6 @@ use native.Mathlib.Numerals.{add-one}
 use native.Mathlib.Omega.{arith}
 use lib.ListN.{length, take, drop, get_or, length-append}
 use lib.Seq.{split_at, length-take-le, take_at, drop_at}
-use Rattle.format.specs.Read.{sound}
 use Rattle.format.specs.Contents.{Claim, no_claim, Contents, claim}
 use Rattle.format.specs.Reading.{byte, claim_size, size_of, claims_from, reading}
 use Rattle.format.specs.Formed.{All, IsSheet, FormedClaim}
@@ -35,7 +35,7 @@ between s front part rest at size e f p = (
   rw (e, drop_at front (part ++ rest) at f, take_at part rest size p),
 )
 
-pub record_stands : (s : List ℕ) (x : Contents) → IsSheet s → reading s ≡ sound x → (i : ℕ) → i < length x.claims → RecordStands s x i
+pub record_stands : (s : List ℕ) (x : Contents) → IsSheet s → reading s ≡ Ok x → (i : ℕ) → i < length x.claims → RecordStands s x i
 unfolding All joined encoded record_from claim
 record_stands s x sheet e i h =
     let (f, whole) = read_formed s sheet x e in

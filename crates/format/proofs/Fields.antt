@@ -1,4 +1,6 @@
 -- Marks, lengths and fields: each is read soundly exactly where its bytes stand, since both sides make the same tests.
+use Rattle.refusals.specs.declared.Refusal.TheVariants as refused
+use Rattle.std.specs.Prelude.{Ok}
 use mathlib.Core.Path.{◌≡◌, refl, sym, ap, ap₂, ◌∙◌, subst}
 use mathlib.Core.Logic.{◌↔◌}
 use mathlib.Core.Bool.{Bool, true}
@@ -9,7 +11,7 @@ use lib.IntN.{ℤ}
 use lib.ListN.{length, length-map}
 use Rattle.signed.specs.Twos.{twos8, twos16}
 use Rattle.terms.specs.Limits.{coefficient_fits, constant_fits}
-use Rattle.format.specs.Read.{sound}
+use Rattle.refusals.specs.declared.Refusal.{Refusal}
 use Rattle.format.specs.Reading.{byte, word, signed_word, bytes, words, marked_at, whole_at, opened_at, each_fits}
 use Rattle.format.specs.Formed.{All, IsSheet, Row, IsTokens, IsCoefficient}
 use Rattle.format.specs.Encoding.{joined, word_bytes, signed_byte, signed_bytes}
@@ -31,18 +33,18 @@ module _ (s : List ℕ) where
   behind_two at a b bs h = stands_right s at (at + 2) (a ∷ b ∷ []) bs refl h
 
   -- marks and lengths
-  pub marked_exactly : (at a b : ℕ) → (marked_at s at a b ≡ sound tt) ↔ Stands s at (a ∷ b ∷ [])
+  pub marked_exactly : (at a b : ℕ) → (marked_at s at a b ≡ Ok tt) ↔ Stands s at (a ∷ b ∷ [])
   unfolding marked_at
   marked_exactly at a b = (
     λ e. let w = simp (parts, tests) at e in (omega arith, w.1.0, (omega arith, w.1.1, tt)),
     λ h. simp (parts, tests) (omega arith, (h.1, h.2.1)),
   )
 
-  pub whole_exactly : (at size : ℕ) → (whole_at s at size ≡ sound tt) ↔ (at + size ≤ length s)
+  pub whole_exactly : (at size : ℕ) → (whole_at s at size ≡ Ok tt) ↔ (at + size ≤ length s)
   unfolding whole_at
   whole_exactly at size = (λ e. simp (parts, tests) at e, λ h. simp (parts, tests) h)
 
-  pub opened_exactly : (at a b size : ℕ) → (opened_at s at a b size ≡ sound tt) ↔ (Stands s at (a ∷ b ∷ []) × (at + size ≤ length s))
+  pub opened_exactly : (at a b size : ℕ) → (opened_at s at a b size ≡ Ok tt) ↔ (Stands s at (a ∷ b ∷ []) × (at + size ≤ length s))
   unfolding opened_at
   opened_exactly at a b size =
       (λ e. simp (parts, marked_exactly, whole_exactly) at e, λ h. simp (parts, marked_exactly, whole_exactly) h)
@@ -51,13 +53,13 @@ module _ (s : List ℕ) where
   opened at a b size bs e h = (stands_left s at (a ∷ b ∷ []) bs h, omega (arith, stands_fits s at a (b ∷ bs) h))
 
   -- fields of one byte
-  pub fits_exactly : (fits : ℕ → Bool) (number at n : ℕ) (b : List ℕ) → length b ≡ n → Stands s at b → (each_fits fits number s at n ≡ sound tt) ↔ All (λ x. fits x ≡ true) b
+  pub fits_exactly : (fits : ℕ → Bool) (refusal : ℕ → Refusal) (at n : ℕ) (b : List ℕ) → length b ≡ n → Stands s at b → (each_fits fits refusal s at n ≡ Ok tt) ↔ All (λ x. fits x ≡ true) b
   unfolding each_fits All
-  fits_exactly fits number at zero [] e h = (λ _. tt, λ _. refl)
-  fits_exactly fits number at zero (x ∷ b) e h = absurd (omega arith)
-  fits_exactly fits number at (suc n) [] e h = absurd (omega arith)
-  fits_exactly fits number at (suc n) (x ∷ b) e h =
-      let rest = fits_exactly fits number (at + 1) n b (omega arith) h.2 in (
+  fits_exactly fits refusal at zero [] e h = (λ _. tt, λ _. refl)
+  fits_exactly fits refusal at zero (x ∷ b) e h = absurd (omega arith)
+  fits_exactly fits refusal at (suc n) [] e h = absurd (omega arith)
+  fits_exactly fits refusal at (suc n) (x ∷ b) e h =
+      let rest = fits_exactly fits refusal (at + 1) n b (omega arith) h.2 in (
         λ r. let w = simp parts at r in (ap fits (sym h.1) ∙ w.0, rest.0 w.1),
         λ a. simp parts (ap fits h.1 ∙ a.0, rest.1 a.1),
       )
@@ -72,13 +74,13 @@ module _ (s : List ℕ) where
       let rest : words s (at + 2) n ≡ m = stand_words (at + 2) n m (omega arith) (behind_two at (w % 256) (w / 256) (joined word_bytes m) h) in
       ap₂ (λ (x : ℕ) (xs : List ℕ). x ∷ xs) (omega (arith, h.1, h.2.1)) rest
 
-  pub stand_coefficients : (at n : ℕ) (k : List ℤ) → Row n IsCoefficient k → Stands s at (map signed_byte k) → (each_fits (λ b. coefficient_fits (twos8 b)) 6 s at n ≡ sound tt) × (map twos8 (bytes s at n) ≡ k)
+  pub stand_coefficients : (at n : ℕ) (k : List ℤ) → Row n IsCoefficient k → Stands s at (map signed_byte k) → (each_fits (λ b. coefficient_fits (twos8 b)) refused.Coefficient s at n ≡ Ok tt) × (map twos8 (bytes s at n) ≡ k)
   stand_coefficients at n k r h =
       let bs : List ℕ = map signed_byte k in
       let many : length bs ≡ n = length-map k signed_byte ∙ r.places in
       let each : All (λ b. coefficient_fits (twos8 b) ≡ true) bs =
       all_map IsCoefficient (λ b. coefficient_fits (twos8 b) ≡ true) signed_byte (λ z e. ap coefficient_fits (coefficient_back z e) ∙ e) k r.each in (
-        (fits_exactly (λ b. coefficient_fits (twos8 b)) 6 at n bs many h).1 each,
+        (fits_exactly (λ b. coefficient_fits (twos8 b)) refused.Coefficient at n bs many h).1 each,
         ap (map twos8) (bytes_stand s at n bs many h) ∙ map_back IsCoefficient signed_byte twos8 coefficient_back k r.each,
       )
 
@@ -108,12 +110,12 @@ module _ (s : List ℕ) (small : IsSheet s) where
         two_before s at (word s at % 256) (word s at / 256) (joined word_bytes (words s (at + 2) n)) (omega arith) w.1,
       )
 
-  pub coefficients_stand : (at n : ℕ) → at + n ≤ length s → each_fits (λ b. coefficient_fits (twos8 b)) 6 s at n ≡ sound tt → Row n IsCoefficient (map twos8 (bytes s at n)) × Stands s at (map signed_byte (map twos8 (bytes s at n)))
+  pub coefficients_stand : (at n : ℕ) → at + n ≤ length s → each_fits (λ b. coefficient_fits (twos8 b)) refused.Coefficient s at n ≡ Ok tt → Row n IsCoefficient (map twos8 (bytes s at n)) × Stands s at (map signed_byte (map twos8 (bytes s at n)))
   coefficients_stand at n h f =
       let bs : List ℕ = bytes s at n in
       let many : length bs ≡ n = length-bytes s at n in
       let there : Stands s at bs = stands-bytes s at n h in
-      let each = (fits_exactly s (λ b. coefficient_fits (twos8 b)) 6 at n bs many there).0 f in (
+      let each = (fits_exactly s (λ b. coefficient_fits (twos8 b)) refused.Coefficient at n bs many there).0 f in (
         record {
           places = length-map bs twos8 ∙ many;
           each = all_map (λ b. coefficient_fits (twos8 b) ≡ true) IsCoefficient twos8 (λ b e. e) bs each;

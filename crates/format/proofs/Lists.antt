@@ -1,4 +1,5 @@
 -- The transitions and the claims, record after record: each list is read exactly where its bytes stand, by induction over the list.
+use Rattle.std.specs.Prelude.{Ok}
 use mathlib.Core.Path.{◌≡◌, refl, ap, subst}
 use mathlib.Core.Logic.{◌↔◌, ⊎_elim}
 use mathlib.Core.List.{List, [], ◌∷◌}
@@ -8,7 +9,7 @@ use lib.ListN.{length, length-append}
 use lib.Dec.{leb}
 use borrow.Author.Tests.{leb-true, le-leb, lt-leb}
 use Rattle.nets.specs.Nets.{Transition}
-use Rattle.format.specs.Read.{Read, sound, ◌>>=◌, ◌>>◌}
+use Rattle.format.specs.Read.{Read, ◌>>=◌, ◌>>◌}
 use Rattle.format.specs.Contents.{Claim}
 use Rattle.format.specs.Reading.{transition_size, transitions_at, claim_size, claim_due, claims_at}
 use Rattle.format.specs.Formed.{All, IsSheet, FormedTransition, FormedClaim}
@@ -18,7 +19,7 @@ use Rattle.format.proofs.Parts.{parts, sound_same, then_first, choose_either}
 use Rattle.format.proofs.Records.{length-transition, length-claim, transition_exactly, claim_exactly}
 
 module _ (s : List ℕ) (n : ℕ) where
-  pub transitions_exactly : (at k : ℕ) (ts : List Transition) → (transitions_at s n at k ≡ sound ts) ↔ ((length ts ≡ k) × All (FormedTransition n) ts × Stands s at (joined transition_bytes ts))
+  pub transitions_exactly : (at k : ℕ) (ts : List Transition) → (transitions_at s n at k ≡ Ok ts) ↔ ((length ts ≡ k) × All (FormedTransition n) ts × Stands s at (joined transition_bytes ts))
   unfolding transitions_at All joined
   transitions_exactly at zero [] = (λ _. (refl, tt, tt), λ _. refl)
   transitions_exactly at zero (t ∷ ts) = (λ e. absurd (let z : ◌≡◌ {A = ℕ} 0 1 = cc in omega arith), λ w. absurd (omega arith))
@@ -63,24 +64,24 @@ module _ (s : List ℕ) (small : IsSheet s) (n : ℕ) where
   goes_on at more = do
     i ← claim_due s n at (suc more)
     is ← claims_at s n (at + claim_size n) more
-    sound (i ∷ is)
+    Ok (i ∷ is)
 
-  pub claims_read : (at more : ℕ) (is : List Claim) → claims_at s n at more ≡ sound is → ClaimsStand s n at more is
+  pub claims_read : (at more : ℕ) (is : List Claim) → claims_at s n at more ≡ Ok is → ClaimsStand s n at more is
   unfolding claims_at goes_on
   claims_read at zero is e =
       ⊎_elim
       (λ w. subst (ClaimsStand s n at zero) (sound_same w.1) (none_stand at zero (leb-true (length s) at w.0)))
-      (λ w. let (i, due) = then_first (claim_due s n at zero) (sound []) is w.1 in absurd (omega (arith, (claim_exactly s small n at zero i).0 due)))
-      (choose_either (leb (length s) at) (sound []) (claim_due s n at zero >> sound []) is e)
+      (λ w. let (i, due) = then_first (claim_due s n at zero) (Ok []) is w.1 in absurd (omega (arith, (claim_exactly s small n at zero i).0 due)))
+      (choose_either (leb (length s) at) (Ok []) (claim_due s n at zero >> Ok []) is e)
   claims_read at (suc more) is e =
       ⊎_elim
       (λ w. subst (ClaimsStand s n at (suc more)) (sound_same w.1) (none_stand at (suc more) (leb-true (length s) at w.0)))
       (λ w. let (i, due, (js, others, all)) = simp parts at w.1 in
       subst (ClaimsStand s n at (suc more)) (sound_same all)
       (one_more at more i js ((claim_exactly s small n at (suc more) i).0 due).1 (claims_read (at + claim_size n) more js others)))
-      (choose_either (leb (length s) at) (sound []) (goes_on at more) is e)
+      (choose_either (leb (length s) at) (Ok []) (goes_on at more) is e)
 
-  pub claims_sound : (at more : ℕ) (is : List Claim) → ClaimsStand s n at more is → claims_at s n at more ≡ sound is
+  pub claims_sound : (at more : ℕ) (is : List Claim) → ClaimsStand s n at more is → claims_at s n at more ≡ Ok is
   unfolding claims_at All joined
   claims_sound at zero [] w = rw (le-leb (length s) at (omega arith))
   claims_sound at zero (i ∷ is) w = absurd (omega arith)

@@ -1,4 +1,5 @@
 -- One meaning has one encoding, and one sheet one answer: an encoding is made of bytes and is read back, so equal encodings are read as the same contents.
+use Rattle.std.specs.Prelude.{Err, Ok}
 use mathlib.Core.Path.{◌≡◌, refl, sym, ◌∙◌, subst}
 use mathlib.Core.Logic.{◌↔◌}
 use mathlib.Core.List.{List, ◌++◌, map}
@@ -9,7 +10,7 @@ use borrow.Author.Tests.{leb-true}
 use Rattle.refusals.specs.declared.Refusal.{Refusal}
 use Rattle.nets.specs.Nets.{Transition}
 use Rattle.nets.specs.Verdicts.{Setting}
-use Rattle.format.specs.Read.{Read, sound, refused}
+use Rattle.format.specs.Read.{Read}
 use Rattle.format.specs.Contents.{Claim, Contents}
 use Rattle.format.specs.Reading.{reading}
 use Rattle.format.specs.Formed.{All, IsSheet, Row, IsWeight, IsTokens, IsCoefficient, FormedTransition, FormedSetting, FormedClaim, Formed}
@@ -76,7 +77,7 @@ encoded_bytes {x} f =
     (all-joined (FormedClaim x.setting.net.places) IsByte claim_bytes (claim_bytes_lem x.setting.net.places) x.claims f.claims)
 
 -- an encoding is read back
-pub encoded_read : (s : List ℕ) (x : Contents) → Formed x → s ≡ encoded x → reading s ≡ sound x
+pub encoded_read : (s : List ℕ) (x : Contents) → Formed x → s ≡ encoded x → reading s ≡ Ok x
 encoded_read s x f e =
     (accepted_exactly s x (subst IsSheet (sym e) (encoded_bytes f))).1 (f, e)
 
@@ -86,22 +87,22 @@ one_encoding {x} {y} f g e =
 
 pub answer_read : (s : List ℕ) (a : Read Contents) → Answers s a → reading s ≡ a
 unfolding Answers
-answer_read s (sound x) w = encoded_read s x w.0 w.1
-answer_read s (refused r) w = w
+answer_read s (Ok x) w = encoded_read s x w.0 w.1
+answer_read s (Err r) w = w
 
 pub one_answer : (s : List ℕ) (a b : Read Contents) → Answers s a → Answers s b → a ≡ b
 one_answer s a b v w = sym (answer_read s a v) ∙ answer_read s b w
 
 pub answers_exactly : (s : List ℕ) (a : Read Contents) → IsSheet s → Answers s a ↔ (reading s ≡ a)
 unfolding Answers
-answers_exactly s (sound x) small = ((accepted_exactly s x small).1, (accepted_exactly s x small).0)
-answers_exactly s (refused r) small = (λ e. e, λ e. e)
+answers_exactly s (Ok x) small = ((accepted_exactly s x small).1, (accepted_exactly s x small).0)
+answers_exactly s (Err r) small = (λ e. e, λ e. e)
 
 -- refused exactly if it encodes nothing
-pub refused_exactly : (s : List ℕ) → IsSheet s → ((r : Refusal) × (reading s ≡ refused r)) ↔ ((x : Contents) → Formed x → s ≡ encoded x → ⊥)
+pub refused_exactly : (s : List ℕ) → IsSheet s → ((r : Refusal) × (reading s ≡ Err r)) ↔ ((x : Contents) → Formed x → s ≡ encoded x → ⊥)
 refused_exactly s small =
     (λ w x f e. never_both w.0 x (sym w.1 ∙ encoded_read s x f e), λ none. go none (reading s) refl)
   where
-    go : ((x : Contents) → Formed x → s ≡ encoded x → ⊥) → (a : Read Contents) → reading s ≡ a → (r : Refusal) × (reading s ≡ refused r)
-    go none (sound x) e = let w = (accepted_exactly s x small).0 e in absurd (none x w.0 w.1)
-    go none (refused r) e = (r, e)
+    go : ((x : Contents) → Formed x → s ≡ encoded x → ⊥) → (a : Read Contents) → reading s ≡ a → (r : Refusal) × (reading s ≡ Err r)
+    go none (Ok x) e = let w = (accepted_exactly s x small).0 e in absurd (none x w.0 w.1)
+    go none (Err r) e = (r, e)

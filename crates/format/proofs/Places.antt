@@ -1,4 +1,5 @@
 -- Where the contents of a sound sheet stand: records of one kind follow one another, so the one with number i stands i sizes behind the first, by induction.
+use Rattle.std.specs.Prelude.{Ok}
 use mathlib.Core.Path.{◌≡◌, refl, sym, ap, ◌∙◌, subst}
 use mathlib.Core.Bool.{true}
 use mathlib.Core.Logic.{⊎_elim}
@@ -12,7 +13,6 @@ use borrow.Author.Tests.{leb-true, leb-false}
 use Rattle.terms.specs.Limits.{most_claims}
 use Rattle.nets.specs.Nets.{Transition}
 use Rattle.nets.specs.Verdicts.{Setting}
-use Rattle.format.specs.Read.{sound}
 use Rattle.format.specs.Contents.{Claim, Contents}
 use Rattle.format.specs.Reading.{byte, words, transition_size, claim_size, Size, size_of, head_of, transition_in, transitions_at, target_in, claim_in, claim_due, claims_at, transitions_from, start_from, target_from, claims_from, setting_of, front_of, claims_of, reading}
 use Rattle.format.proofs.Parts.{parts, then_first, choose_either}
@@ -32,7 +32,7 @@ pub record TransitionsSound (s : List ℕ) (n at k : ℕ) (ts : List Transition)
   pub whole : at ≤ length s → at + k * transition_size n ≤ length s
   pub each : (d : Transition) (i : ℕ) → i < k → get_or ts i d ≡ transition_in s n (at + i * transition_size n)
 
-pub transitions_sound : (s : List ℕ) (n at k : ℕ) (ts : List Transition) → transitions_at s n at k ≡ sound ts → TransitionsSound s n at k ts
+pub transitions_sound : (s : List ℕ) (n at k : ℕ) (ts : List Transition) → transitions_at s n at k ≡ Ok ts → TransitionsSound s n at k ts
 unfolding transitions_at
 transitions_sound s n at zero ts e =
     let p : [] ≡ ts = cc in
@@ -59,13 +59,13 @@ claims_done s n at more is e p =
     let done : length s ≤ at = leb-true (length s) at e in
     subst (ClaimsSound s n at more) p (record { most = omega arith; whole = omega arith; each = λ d i h. absurd (omega arith) })
 
-pub claims_sound : (s : List ℕ) (n at more : ℕ) (is : List Claim) → claims_at s n at more ≡ sound is → ClaimsSound s n at more is
+pub claims_sound : (s : List ℕ) (n at more : ℕ) (is : List Claim) → claims_at s n at more ≡ Ok is → ClaimsSound s n at more is
 unfolding claims_at
 claims_sound s n at zero is e =
     ⊎_elim
     (λ done. claims_done s n at 0 is done.0 (cc))
     (λ due.
-    let (i, e₁) = then_first (claim_due s n at 0) (sound []) is due.1 in
+    let (i, e₁) = then_first (claim_due s n at 0) (Ok []) is due.1 in
     absurd (omega (arith, (due_sound s n at 0 i e₁).2)))
     (choose_either _ _ _ _ e)
 claims_sound s n at (suc more) is e =
@@ -92,7 +92,7 @@ pub record SettingSound (s : List ℕ) (z : Size) (q : Setting) : Type 0 where
   pub target : q.target ≡ target_in s z.n (target_from z)
   pub whole : claims_from z ≤ length s
 
-pub setting-sound : (s : List ℕ) (z : Size) (q : Setting) → setting_of s z ≡ sound q → SettingSound s z q
+pub setting-sound : (s : List ℕ) (z : Size) (q : Setting) → setting_of s z ≡ Ok q → SettingSound s z q
 unfolding setting_of
 setting-sound s z q e =
     let (ts, e₁, (m, e₂, (g, e₃, here))) = simp parts at e in
@@ -112,20 +112,20 @@ setting-sound s z q e =
 abbrev pub size_in : List ℕ → Size
 size_in s = size_of (byte s 2) (byte s 3)
 
-pub front_sound : (s : List ℕ) (q : Setting) → front_of s ≡ sound q → (head_of s ≡ sound (size_in s)) × (setting_of s (size_in s) ≡ sound q) × (claims_from (size_in s) ≤ length s)
+pub front_sound : (s : List ℕ) (q : Setting) → front_of s ≡ Ok q → (head_of s ≡ Ok (size_in s)) × (setting_of s (size_in s) ≡ Ok q) × (claims_from (size_in s) ≤ length s)
 unfolding front_of
 front_sound s q e =
     let (z, e₁, f₁) = simp parts at e in
     let p : z ≡ size_in s = (head_sound s z e₁).size in
-    let f : setting_of s (size_in s) ≡ sound q = ap (setting_of s) (sym p) ∙ f₁ in
-    (e₁ ∙ ap sound p, f, (setting-sound s (size_in s) q f).whole)
+    let f : setting_of s (size_in s) ≡ Ok q = ap (setting_of s) (sym p) ∙ f₁ in
+    (e₁ ∙ ap Ok p, f, (setting-sound s (size_in s) q f).whole)
 
 -- one claim or more
 pub some_left : (at k size end : ℕ) → at + k * size ≡ end → at < end → 1 ≤ k
 some_left at zero size end e h = absurd (omega arith)
 some_left at (suc k) size end e h = omega arith
 
-pub claims_of-sound : (s : List ℕ) (z : Size) (is : List Claim) → claims_of s z ≡ sound is → (claims_from z < length s) × ClaimsSound s z.n (claims_from z) most_claims is
+pub claims_of-sound : (s : List ℕ) (z : Size) (is : List Claim) → claims_of s z ≡ Ok is → (claims_from z < length s) × ClaimsSound s z.n (claims_from z) most_claims is
 unfolding claims_of
 claims_of-sound s z is e =
     ⊎_elim
@@ -135,17 +135,17 @@ claims_of-sound s z is e =
 
 -- the sheet
 pub record PartsSound (s : List ℕ) (x : Contents) : Type 0 where
-  pub head : head_of s ≡ sound (size_in s)
-  pub setting : setting_of s (size_in s) ≡ sound x.setting
-  pub claims : claims_of s (size_in s) ≡ sound x.claims
+  pub head : head_of s ≡ Ok (size_in s)
+  pub setting : setting_of s (size_in s) ≡ Ok x.setting
+  pub claims : claims_of s (size_in s) ≡ Ok x.claims
 
-pub parts_sound : (s : List ℕ) (x : Contents) → reading s ≡ sound x → PartsSound s x
+pub parts_sound : (s : List ℕ) (x : Contents) → reading s ≡ Ok x → PartsSound s x
 unfolding reading
 parts_sound s x e =
     let (z, e₁, (q, e₂, (is, e₃, all))) = simp parts at e in
     let p : z ≡ size_in s = (head_sound s z e₁).size in
     let r : record { setting = q; claims = is } ≡ x = cc in
-    subst (PartsSound s) r (record { head = e₁ ∙ ap sound p; setting = ap (setting_of s) (sym p) ∙ e₂; claims = ap (claims_of s) (sym p) ∙ e₃ })
+    subst (PartsSound s) r (record { head = e₁ ∙ ap Ok p; setting = ap (setting_of s) (sym p) ∙ e₂; claims = ap (claims_of s) (sym p) ∙ e₃ })
 
 pub record Held (s : List ℕ) (x : Contents) : Type 0 where
   pub places : x.setting.net.places ≡ (size_in s).n
@@ -161,7 +161,7 @@ pub record Held (s : List ℕ) (x : Contents) : Type 0 where
   pub each_claim : (d : Claim) (i : ℕ) → i < length x.claims → get_or x.claims i d ≡ claim_in s (size_in s).n (claims_from (size_in s) + i * claim_size (size_in s).n)
   pub end : claims_from (size_in s) + length x.claims * claim_size (size_in s).n ≡ length s
 
-pub held : (s : List ℕ) (x : Contents) → reading s ≡ sound x → Held s x
+pub held : (s : List ℕ) (x : Contents) → reading s ≡ Ok x → Held s x
 held s x e =
     let parts = parts_sound s x e in
     let head = head_sound s (size_in s) parts.head in

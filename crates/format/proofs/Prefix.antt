@@ -1,4 +1,5 @@
 -- The answer depends on the first 2,891 bytes alone: n is at most 16, T at most 64, and behind 32 claims only a mark is looked at, so no byte and no test reaches further.
+use Rattle.std.specs.Prelude.{Err, Ok}
 use mathlib.Core.Path.{◌≡◌, refl}
 use mathlib.Core.Bool.{Bool, true, false}
 use mathlib.Core.List.{List}
@@ -10,9 +11,11 @@ use lib.ListN.{length, take, length-take}
 use lib.Seq.{get_or-take}
 use borrow.Author.Tests.{leb-true, leb-false, le-leb, lt-leb}
 use Rattle.terms.specs.Limits.{weight_fits, coefficient_fits, most_claims}
-use Rattle.refusals.specs.Refusals.{claimless}
+use Rattle.refusals.specs.declared.Refusal.TheVariants.{NoClaim}
 use Rattle.signed.specs.Twos.{twos8}
-use Rattle.format.specs.Read.{Read, sound, refused, ◌>>=◌, choose}
+use Rattle.refusals.specs.declared.Refusal.{Refusal}
+use Rattle.refusals.specs.declared.Refusal.TheVariants as refused
+use Rattle.format.specs.Read.{Read, ◌>>=◌, choose}
 use Rattle.format.specs.Reading.{byte, bytes, words, marked_at, whole_at, opened_at, each_fits, head_size, transition_size, start_size, target_size, claim_size, Size, head_of, transition_at, transitions_at, start_at, target_at, claim_at, claim_due, claims_at, transitions_from, start_from, target_from, claims_from, setting_of, claims_of, reading}
 use Rattle.format.proofs.Sound.{head_sound}
 
@@ -56,10 +59,10 @@ module _ (s : List ℕ) (k : ℕ) where
   unfolding opened_at
   opened_first at first second size l h = rw (marked_first at first second l, whole_first at size h)
 
-  pub each_first : (fits : ℕ → Bool) (number at n : ℕ) → at + n ≤ k → each_fits fits number (take k s) at n ≡ each_fits fits number s at n
+  pub each_first : (fits : ℕ → Bool) (refusal : ℕ → Refusal) (at n : ℕ) → at + n ≤ k → each_fits fits refusal (take k s) at n ≡ each_fits fits refusal s at n
   unfolding each_fits
-  each_first fits number at zero h = refl
-  each_first fits number at (suc n) h = rw (byte_first at (omega arith), each_first fits number (at + 1) n (omega arith))
+  each_first fits refusal at zero h = refl
+  each_first fits refusal at (suc n) h = rw (byte_first at (omega arith), each_first fits refusal (at + 1) n (omega arith))
 
   pub head_first : 4 ≤ k → head_of (take k s) ≡ head_of s
   unfolding head_of
@@ -68,7 +71,7 @@ module _ (s : List ℕ) (k : ℕ) where
   pub transition_first : (n at : ℕ) → at + transition_size n ≤ k → transition_at (take k s) n at ≡ transition_at s n at
   unfolding transition_at
   transition_first n at h =
-      rw (opened_first at 0x54 0x52 (transition_size n) (omega arith) h, each_first weight_fits 4 (at + 2) (2 * n) (omega arith), bytes_first (at + 2) n (omega arith), bytes_first (at + 2 + n) n (omega arith))
+      rw (opened_first at 0x54 0x52 (transition_size n) (omega arith) h, each_first weight_fits refused.Weight (at + 2) (2 * n) (omega arith), bytes_first (at + 2) n (omega arith), bytes_first (at + 2 + n) n (omega arith))
 
   pub transitions_first : (n at c : ℕ) → at + c * transition_size n ≤ k → transitions_at (take k s) n at c ≡ transitions_at s n at c
   unfolding transitions_at
@@ -94,7 +97,7 @@ module _ (s : List ℕ) (k : ℕ) where
   pub claim_first : (n at : ℕ) → at + claim_size n ≤ k → claim_at (take k s) n at ≡ claim_at s n at
   unfolding claim_at
   claim_first n at h =
-      rw (whole_first at (claim_size n) h, each_first (λ b. coefficient_fits (twos8 b)) 6 (at + 2) n (omega arith), bytes_first (at + 2) n (omega arith), byte_first (at + 2 + n) (omega arith), byte_first (at + 2 + n + 1) (omega arith))
+      rw (whole_first at (claim_size n) h, each_first (λ b. coefficient_fits (twos8 b)) refused.Coefficient (at + 2) n (omega arith), bytes_first (at + 2) n (omega arith), byte_first (at + 2 + n) (omega arith), byte_first (at + 2 + n + 1) (omega arith))
 
   -- where no claim may come, the mark alone is looked at
   pub due_first : (n at more : ℕ) → at + 2 ≤ k → (0 < more → at + claim_size n ≤ k) → claim_due (take k s) n at more ≡ claim_due s n at more
@@ -110,7 +113,7 @@ module _ (s : List ℕ) (k : ℕ) where
       rw (ends_first at (omega arith), due_first n at (suc more) (omega arith) (omega arith), claims_first n (at + claim_size n) more l)
 
   -- 9's detail is the length, where the sheet is short
-  pub none_first : {A : Type 0} (at : ℕ) (t : Bool) (x : Read A) → at < k → leb (length s) at ≡ t → choose t (refused (claimless (length (take k s)))) x ≡ choose t (refused (claimless (length s))) x
+  pub none_first : {A : Type 0} (at : ℕ) (t : Bool) (x : Read A) → at < k → leb (length s) at ≡ t → choose t (Err (NoClaim (length (take k s)))) x ≡ choose t (Err (NoClaim (length s))) x
   none_first at true x h e =
       let l : length s ≤ at = leb-true (length s) at e in
       let same : length (take k s) ≡ length s = rw length-take (omega arith) in
@@ -124,7 +127,7 @@ module _ (s : List ℕ) (k : ℕ) where
       (none_first (claims_from z) (leb (length s) (claims_from z)) (claims_at s z.n (claims_from z) most_claims) (omega arith) refl)
 
 -- how far a sheet is looked at
-pub furthest : (s : List ℕ) (z : Size) → head_of s ≡ sound z → claims_from z + most_claims * claim_size z.n + 2 ≤ 2891
+pub furthest : (s : List ℕ) (z : Size) → head_of s ≡ Ok z → claims_from z + most_claims * claim_size z.n + 2 ≤ 2891
 furthest s z e =
     let head = head_sound s z e in
     let n : z.n ≤ 16 = rw head.size head.places in
@@ -132,9 +135,9 @@ furthest s z e =
     let one : transition_size z.n ≤ 34 = omega arith in
     omega (arith, mul-le-mul T one)
 
-pub same_after : {A B : Type 0} (x : Read A) (f g : A → Read B) → ((a : A) → x ≡ sound a → f a ≡ g a) → (x >>= f) ≡ (x >>= g)
-same_after (sound a) f g same = same a refl
-same_after (refused r) f g same = refl
+pub same_after : {A B : Type 0} (x : Read A) (f g : A → Read B) → ((a : A) → x ≡ Ok a → f a ≡ g a) → (x >>= f) ≡ (x >>= g)
+same_after (Ok a) f g same = same a refl
+same_after (Err r) f g same = refl
 
 pub first_bytes : (s : List ℕ) (k : ℕ) → 2891 ≤ k → reading (take k s) ≡ reading s
 unfolding reading

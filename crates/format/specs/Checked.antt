@@ -1,9 +1,9 @@
 -- What the check of a part answers, over what the part is read as: what it holds is dropped.
-use Rattle.format.specs.Read.{Read, sound, refused}
-use Rattle.refusals.specs.declared.Check.{Check}
-use Rattle.refusals.specs.declared.Check.TheVariants.{Fine, Refused}
+use Rattle.std.specs.Prelude.{Err, Ok}
+use Rattle.format.specs.Read.{Read}
+use Rattle.refusals.specs.Refusals.{Check}
 
 -- fine, or the refusal
 abbrev pub checked : {A : Type 0} → Read A → Check
-checked (sound a) = Fine
-checked (refused r) = Refused r
+checked (Ok a) = (Ok tt)
+checked (Err r) = Err r

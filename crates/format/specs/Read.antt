@@ -1,26 +1,29 @@
 -- Reading a part of a sheet gives what it holds, or the refusal of its first fault.
-use Rattle.std.specs.Prelude.{Bool, true, false, ℕ}
-use Rattle.refusals.specs.Refusals.{refused_at}
+use Rattle.std.specs.Prelude.{Bool, true, false, Result, Ok, Err}
 use Rattle.refusals.specs.declared.Refusal.{Refusal}
 
-pub data Read (A : Type 0) : Type 0 where
-  sound : A → Read A
-  refused : Refusal → Read A
+abbrev pub Read : Type 0 → Type 0
+Read A = Result A Refusal
 
 -- one part after another, left to right: the first fault is the answer
 infixl 1 ◌>>=◌ ◌>>◌
 abbrev pub ◌>>=◌ : {A B : Type 0} → Read A → (A → Read B) → Read B
-sound a >>= next = next a
-refused r >>= next = refused r
+(Ok a) >>= next = next a
+(Err r) >>= next = Err r
 
 abbrev pub ◌>>◌ : {A B : Type 0} → Read A → Read B → Read B
-sound a >> next = next
-refused r >> next = refused r
+(Ok a) >> next = next
+(Err r) >> next = Err r
 
--- where the test fails, the refusal `number` at the byte `at`
-abbrev pub need : Bool → ℕ → ℕ → Read (Unit {0})
-need true number at = sound tt
-need false number at = refused (refused_at number at)
+-- the same of what was read, or its refusal
+abbrev pub map_ok : {A B : Type 0} → (A → B) → Read A → Read B
+map_ok f (Ok a) = Ok (f a)
+map_ok f (Err r) = Err r
+
+-- where the test fails, the refusal
+abbrev pub need : Bool → Refusal → Read (Unit {0})
+need true refusal = Ok tt
+need false refusal = Err refusal
 
 abbrev pub choose : {A : Type 0} → Bool → A → A → A
 choose true a b = a

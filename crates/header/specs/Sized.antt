@@ -1,10 +1,10 @@
 -- What NP answers, over what it is read as.
-use Rattle.format.specs.Read.{Read, sound, refused}
+use Rattle.std.specs.Prelude.{Err, Ok}
+use Rattle.format.specs.Read.{Read}
 use Rattle.format.specs.Reading.{Size}
-use Rattle.header.specs.declared.Measured.{Measured}
-use Rattle.header.specs.declared.Measured.TheVariants.{As, Faulty}
+use Rattle.header.specs.Sized.{Measured}
 
 -- the net's size as NP says it, or the refusal
 abbrev pub sized_of : Read Size → Measured
-sized_of (sound z) = As (record { places = z.n; transitions = z.T })
-sized_of (refused r) = Faulty r
+sized_of (Ok z) = Ok (record { places = z.n; transitions = z.T })
+sized_of (Err r) = Err r

@@ -1,8 +1,7 @@
 // The verdict on a half space, over numbers, and on a claim of a sheet that was read.
 #![tactic(auto)]
 
-ghost use Rattle.std.specs.Prelude.{◌≡◌, ◌≤◌, length, take};
-ghost use Rattle.format.specs.Read.{sound};
+ghost use Rattle.std.specs.Prelude.{◌≡◌, ◌≤◌, length, take, Ok};
 ghost use Rattle.format.specs.Contents.{Contents, half_space, claim};
 ghost use Rattle.format.specs.Formed.{Row, IsCoefficient};
 ghost use Rattle.format.specs.Reading.{reading};
@@ -32,7 +31,7 @@ fn judge_space(
     requires known { Known sheet.now counts }
     requires row { Row counts.places IsCoefficient (take counts.places k) × Constants c }
     requires marks_len { (length marks.old ≡ 20000) × (length queue.old ≡ 20000) }
-    ensures { (x : Contents) → reading sheet.now ≡ sound x → Judges x.setting (space (take counts.places k) c) result }
+    ensures { (x : Contents) → reading sheet.now ≡ Ok x → Judges x.setting (space (take counts.places k) c) result }
 {
     let n = counts.places;
     let start = behind_transitions(n, counts.transitions);
@@ -66,7 +65,7 @@ pub fn judge_claim(
 ) -> Judged
     requires known { Known sheet.now counts × (1 ≤ i) × (i ≤ counts.claims) }
     requires marks_len { (length marks.old ≡ 20000) × (length queue.old ≡ 20000) }
-    ensures { (x : Contents) → reading sheet.now ≡ sound x → Judges x.setting (half_space (claim x i)) result }
+    ensures { (x : Contents) → reading sheet.now ≡ Ok x → Judges x.setting (half_space (claim x i)) result }
 {
     let n = counts.places;
     let at = behind_claims(n, counts.transitions, i - 1);

@@ -1,4 +1,5 @@
 -- What a sheet that was read holds, claim by claim and transition by transition, and that all of it is within the limits.
+use Rattle.std.specs.Prelude.{Ok}
 use mathlib.Core.Path.{◌≡◌, sym, ap, ap₂, ◌∙◌, subst}
 use mathlib.Core.List.{List, [], ◌∷◌}
 use Prim.Native.Nat.{ℕ, zero, suc, ◌+◌, ◌-◌, ◌*◌, ◌≤◌, ◌<◌}
@@ -8,7 +9,6 @@ use lib.ListN.{length, get_or, take}
 use lib.Seq.{take_at}
 use Rattle.nets.specs.HalfSpaces.{HalfSpace, sixteen}
 use Rattle.nets.specs.Nets.{transition, none}
-use Rattle.format.specs.Read.{sound}
 use Rattle.format.specs.Contents.{Contents, half_space, claim, no_claim}
 use Rattle.format.specs.Formed.{All, IsSheet, Formed, FormedClaim, FormedTransition}
 use Rattle.format.specs.Reading.{size_of, transition_in, target_in, claim_in, words, transition_size, claim_size, transitions_from, target_from, claims_from, reading}
@@ -26,7 +26,7 @@ all_at P d [] i l a = absurd (omega arith)
 all_at P d (x ∷ xs) zero l a = a.0
 all_at P d (x ∷ xs) (suc i) l a = all_at P d xs i (omega arith) a.1
 
-pub same_contents : (s : List ℕ) (x y : Contents) → reading s ≡ sound x → reading s ≡ sound y → x ≡ y
+pub same_contents : (s : List ℕ) (x y : Contents) → reading s ≡ Ok x → reading s ≡ Ok y → x ≡ y
 same_contents s x y e f = cc
 
 module _ (s : List ℕ) (k : Counts) (q : Known s k) where

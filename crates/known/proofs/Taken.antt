@@ -1,4 +1,5 @@
 -- What the reader's answer tells: a sound one comes of sound contents with these counts, and a refusal is the sheet's.
+use Rattle.std.specs.Prelude.{Err, Ok}
 use mathlib.Core.Path.{◌≡◌, refl, sym, ap, ◌∙◌}
 use mathlib.Core.List.{List}
 use Prim.Native.Nat.{ℕ, suc, ◌+◌, ◌-◌, ◌*◌, ◌≤◌, ◌<◌}
@@ -12,7 +13,7 @@ use borrow.Author.Tests.{leb-true}
 use Rattle.terms.specs.Limits.{among}
 use Rattle.format.proofs.Sound.{cond-true}
 use Rattle.refusals.specs.declared.Refusal.{Refusal}
-use Rattle.format.specs.Read.{Read, sound, refused}
+use Rattle.format.specs.Read.{Read}
 use Rattle.nets.specs.Nets.{transition, none}
 use Rattle.format.specs.Contents.{Contents, claim, no_claim}
 use Rattle.format.specs.Reading.{size_of, words, transition_in, target_in, claim_in, transition_size, claim_size, transitions_from, target_from, claims_from}
@@ -21,18 +22,17 @@ use Rattle.format.proofs.Places.{size_in, Held}
 use Rattle.format.proofs.ClaimRecord.{RecordStands}
 use Rattle.reader.specs.Answers.{counts_of, answer_of}
 use Rattle.reader.specs.declared.Counts.{Counts}
-use Rattle.reader.specs.declared.Reading.TheVariants.{Sound, Malformed}
 
-sound_not_refused : {k : Counts} {r : Refusal} → Sound k ≡ Malformed r → ⊥
+sound_not_refused : {k : Counts} {r : Refusal} → Ok k ≡ Err r → ⊥
 sound_not_refused e = let z : ◌≡◌ {A = ℕ} 0 1 = cc in omega arith
 
-pub sound_answer : (y : Read Contents) {k : Counts} → answer_of y ≡ Sound k → (x : Contents) × (y ≡ sound x) × (counts_of x ≡ k)
-sound_answer (sound x) e = (x, refl, cc)
-sound_answer (refused r) e = absurd (sound_not_refused (sym e))
+pub sound_answer : (y : Read Contents) {k : Counts} → answer_of y ≡ Ok k → (x : Contents) × (y ≡ Ok x) × (counts_of x ≡ k)
+sound_answer (Ok x) e = (x, refl, cc)
+sound_answer (Err r) e = absurd (sound_not_refused (sym e))
 
-pub refused_answer : (y : Read Contents) {r : Refusal} → answer_of y ≡ Malformed r → y ≡ refused r
-refused_answer (sound x) e = absurd (sound_not_refused e)
-refused_answer (refused q) e = cc
+pub refused_answer : (y : Read Contents) {r : Refusal} → answer_of y ≡ Err r → y ≡ Err r
+refused_answer (Ok x) e = absurd (sound_not_refused e)
+refused_answer (Err q) e = cc
 
 pub among_some : (i count : ℕ) → among i count ≡ true → (1 ≤ i) × (i ≤ count)
 among_some i count e =

@@ -1,7 +1,7 @@
 -- What the exports answer where the call has a statement and not one definition: the numbers of an answer that the statement allows.
 use Rattle.std.specs.Prelude.{◌≡◌, List, ◌++◌, ℕ, leb, length, drop}
 use Rattle.terms.specs.Limits.{text_size}
-use Rattle.refusals.specs.Refusals.{small_text}
+use Rattle.refusals.specs.declared.Refusal.TheVariants.{SmallText}
 use Rattle.terms.specs.declared.Claim.{Claim}
 use Rattle.terms.specs.declared.Transition.{Transition}
 use Rattle.format.specs.Read.{Read, choose}
@@ -49,7 +49,7 @@ IsListingText y marks queue old new r = (l : Listed) × IsListed y marks queue o
 
 -- the line of a refusal that has this number and this detail: its length and the text area afterwards; 19 where the area is too short
 abbrev pub refusal_told : ℕ → ℕ → List ℕ → Written
-refusal_told number detail old = listed_is (choose (leb text_size (length old)) (listed.Written (length (refused_line number detail))) (listed.Refused small_text))
+refusal_told number detail old = listed_is (choose (leb text_size (length old)) (listed.Written (length (refused_line number detail))) (listed.Refused SmallText))
 
 abbrev pub refusal_after : ℕ → ℕ → List ℕ → List ℕ
 refusal_after number detail old = choose (leb text_size (length old)) (refused_line number detail ++ drop (length (refused_line number detail)) old) old

@@ -1,4 +1,5 @@
 -- Two listings of one sheet differ in the choice among bad markings alone: a claim has one verdict but for that, and one twin's number.
+use Rattle.std.specs.Prelude.{Err, Ok}
 use mathlib.Core.Path.{◌≡◌, refl, sym, ap, ap₂, ◌∙◌}
 use mathlib.Core.Bool.{Bool, true, false}
 use mathlib.Core.List.{List, ◌++◌}
@@ -10,10 +11,9 @@ use Rattle.terms.specs.Limits.{text_size}
 use Rattle.refusals.specs.declared.Refusal.{Refusal}
 use Rattle.nets.specs.Verdicts.{Verdict, start_outside, target_inside, broken, proof, IsVerdict, SameBut}
 use Rattle.nets.proofs.OneVerdict.{one_verdict}
-use Rattle.format.specs.Read.{Read, sound, refused}
+use Rattle.format.specs.Read.{Read}
 use Rattle.format.specs.Contents.{Contents, half_space, claim}
-use Rattle.refusals.specs.declared.Check.{Check}
-use Rattle.refusals.specs.declared.Check.TheVariants.{Fine, Refused}
+use Rattle.refusals.specs.Refusals.{Check}
 use Rattle.twins.proofs.OneAnswer.{one_number}
 use Rattle.lines.specs.Lines.{claim_line}
 use Rattle.entries.specs.Entries.{IsLine, AreLines, IsListing, counts_of_sheet}
@@ -84,13 +84,13 @@ module _ (x : Contents) where
       a.is ∙ ap (λ (ls : List ℕ). counts_of_sheet x ++ ls) (lines_equal (length x.claims) none a.lines b.lines a.are b.are) ∙ sym b.is
 
 -- two answers to one call
-lists_alike : (k : Check) (x : Contents) (old new new_too : List ℕ) (r s : Listed) → Lists k x old new r → Lists k x old new_too s → AnswersAlike (sound x) old new new_too r s
-lists_alike Fine x old new new_too r s a b = both_listed x refl a.0 b.0 (alike x a.0 b.0 a.1 b.1) a.2 b.2 a.3 b.3
-lists_alike (Refused q) x old new new_too r s a b = both_refused q a.0 b.0 a.1 b.1
+lists_alike : (k : Check) (x : Contents) (old new new_too : List ℕ) (r s : Listed) → Lists k x old new r → Lists k x old new_too s → AnswersAlike (Ok x) old new new_too r s
+lists_alike (Ok u) x old new new_too r s a b = both_listed x refl a.0 b.0 (alike x a.0 b.0 a.1 b.1) a.2 b.2 a.3 b.3
+lists_alike (Err q) x old new new_too r s a b = both_refused q a.0 b.0 a.1 b.1
 
 pub answers_alike : (y : Read Contents) (marks queue : ℕ) (old new new_too : List ℕ) (r s : Listed) → IsListed y marks queue old new r → IsListed y marks queue old new_too s → AnswersAlike y old new new_too r s
-answers_alike (refused q) marks queue old new new_too r s a b = both_refused q a.0 b.0 a.1 b.1
-answers_alike (sound x) marks queue old new new_too r s a b = lists_alike (room_check marks queue (length old)) x old new new_too r s a b
+answers_alike (Err q) marks queue old new new_too r s a b = both_refused q a.0 b.0 a.1 b.1
+answers_alike (Ok x) marks queue old new new_too r s a b = lists_alike (room_check marks queue (length old)) x old new new_too r s a b
 
 -- a refusal's line leaves nothing to choose
 written_once : (t : Bool) (q : Refusal) (old new new_too : List ℕ) (r s : Listed) → RefusalWritten t q old new r → RefusalWritten t q old new_too s → (r ≡ s) × (new ≡ new_too)

@@ -1,9 +1,9 @@
 -- When two listings of a sheet are alike: they differ in the choice among bad markings alone.
-use Rattle.std.specs.Prelude.{◌≡◌, List, [], ◌++◌, ℕ, zero, suc, length, drop}
+use Rattle.std.specs.Prelude.{◌≡◌, List, [], ◌++◌, ℕ, zero, suc, length, drop, Ok}
 use Rattle.refusals.specs.declared.Refusal.{Refusal}
 use Rattle.nets.specs.Nets.{Marking}
 use Rattle.nets.specs.Verdicts.{Verdict, broken, IsVerdict, SameBut}
-use Rattle.format.specs.Read.{Read, sound}
+use Rattle.format.specs.Read.{Read}
 use Rattle.format.specs.Contents.{Contents, half_space, claim}
 use Rattle.lines.specs.Lines.{claim_line}
 use Rattle.listing.specs.declared.Listed.{Listed}
@@ -39,4 +39,4 @@ Unbroken x i = (t : ℕ) (m : Marking) → IsVerdict x.setting (half_space (clai
 -- two answers with the areas that they leave: one refusal, or listings that are alike
 pub data AnswersAlike (y : Read Contents) (old new new_too : List ℕ) (r s : Listed) : Type 0 where
   both_refused : (q : Refusal) → r ≡ listed.Refused q → s ≡ listed.Refused q → new ≡ old → new_too ≡ old → AnswersAlike y old new new_too r s
-  both_listed : (x : Contents) → y ≡ sound x → (text other : List ℕ) → Alike x text other → r ≡ listed.Written (length text) → s ≡ listed.Written (length other) → new ≡ text ++ drop (length text) old → new_too ≡ other ++ drop (length other) old → AnswersAlike y old new new_too r s
+  both_listed : (x : Contents) → y ≡ Ok x → (text other : List ℕ) → Alike x text other → r ≡ listed.Written (length text) → s ≡ listed.Written (length other) → new ≡ text ++ drop (length text) old → new_too ≡ other ++ drop (length other) old → AnswersAlike y old new new_too r s

@@ -1,8 +1,7 @@
 // The listing of a sheet: document 01, "The listing".
 #![tactic(auto)]
 
-ghost use Rattle.std.specs.Prelude.{◌≡◌, List, ℕ, ◌≤◌, length};
-ghost use Rattle.format.specs.Read.{sound};
+ghost use Rattle.std.specs.Prelude.{◌≡◌, List, ℕ, ◌≤◌, length, Ok};
 ghost use Rattle.format.specs.Contents.{Contents};
 ghost use Rattle.format.specs.Reading.{reading};
 ghost use Rattle.known.specs.Known.{Known};
@@ -49,7 +48,7 @@ fn written(
 ) -> usize
     requires known { Known sheet.now counts }
     requires in_bounds { (20000 ≤ length marks.old) × (20000 ≤ length queue.old) × (4096 ≤ length text.old) }
-    ensures by_index { (x : Contents) → reading sheet.now ≡ sound x → (bs : List ℕ) × IsListing x bs × Wrote bs text.old 0 text.new result }
+    ensures by_index { (x : Contents) → reading sheet.now ≡ Ok x → (bs : List ℕ) × IsListing x bs × Wrote bs text.old 0 text.new result }
     ensures wiped { Wiped 20000 marks.old marks.new × Wiped 20000 queue.old queue.new }
 {
     let end = all_lines(

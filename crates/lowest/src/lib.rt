@@ -1,8 +1,7 @@
 // The lowest transition that breaks a half space.
 #![tactic(auto)]
 
-ghost use Rattle.std.specs.Prelude.{◌≡◌, ◌≤◌, length, take};
-ghost use Rattle.format.specs.Read.{sound};
+ghost use Rattle.std.specs.Prelude.{◌≡◌, ◌≤◌, length, take, Ok};
 ghost use Rattle.format.specs.Contents.{Contents};
 ghost use Rattle.format.specs.Formed.{Row, IsCoefficient};
 ghost use Rattle.format.specs.Reading.{reading, transition_in};
@@ -51,7 +50,7 @@ pub fn first_broken(
     requires known { Known sheet.now counts }
     requires row { Row counts.places IsCoefficient (take counts.places k) × Constants c }
     requires in_bounds { 100 ≤ length table.old }
-    ensures { (x : Contents) → reading sheet.now ≡ sound x → FirstBroken x.setting.net (space (take counts.places k) c) result }
+    ensures { (x : Contents) → reading sheet.now ≡ Ok x → FirstBroken x.setting.net (space (take counts.places k) c) result }
 {
     let n = counts.places;
     let reach = table_of(k, n, table);

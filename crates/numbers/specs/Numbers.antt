@@ -1,11 +1,9 @@
 -- The numbers that C gets for each answer. An enum's case is a number, and the numbers are set out here once.
-use Rattle.std.specs.Prelude.{ℕ}
+use Rattle.std.specs.Prelude.{ℕ, Err, Ok}
 use Rattle.refusals.specs.Refusals.{detail_of}
 use Rattle.refusals.specs.declared.Refusal.{Refusal}
-use Rattle.refusals.specs.declared.Check.{Check}
-use Rattle.refusals.specs.declared.Check.TheVariants.{Fine, Refused}
-use Rattle.reader.specs.declared.Reading.{Reading}
-use Rattle.reader.specs.declared.Reading.TheVariants.{Sound, Malformed}
+use Rattle.refusals.specs.Refusals.{Check}
+use Rattle.reader.specs.Answers.{Reading}
 use Rattle.amounts.specs.declared.Kind.{Kind}
 use Rattle.amounts.specs.declared.Kind.TheVariants.{Exact, AtOrAbove}
 use Rattle.sheet.specs.declared.Weights.{Weights}
@@ -45,13 +43,13 @@ abbrev pub refusal_is : Refusal → refused.Refused
 refusal_is r = record { number = r.number; detail = detail_of r.detail }
 
 abbrev pub check_is : Check → refused.Refused
-check_is Fine = nothing
-check_is (Refused r) = refusal_is r
+check_is (Ok u) = nothing
+check_is (Err r) = refusal_is r
 
 -- the counts; a refused sheet has zeros
 abbrev pub reading_is : Reading → Counted
-reading_is (Sound k) = record { refusal = nothing; places = k.places; transitions = k.transitions; claims = k.claims }
-reading_is (Malformed r) = record { refusal = refusal_is r; places = 0; transitions = 0; claims = 0 }
+reading_is (Ok k) = record { refusal = nothing; places = k.places; transitions = k.transitions; claims = k.claims }
+reading_is (Err r) = record { refusal = refusal_is r; places = 0; transitions = 0; claims = 0 }
 
 -- what a sheet holds
 abbrev pub weights_is : Weights → Weighted

@@ -1,13 +1,12 @@
 -- A fine list is a firing sequence of the net, and every firing sequence that stays within 65,535 and is no longer than 64 can be fired as a list.
+use Rattle.std.specs.Prelude.{Ok}
 use mathlib.Core.Path.{◌≡◌, refl, sym, ap, ◌∙◌, subst}
 use mathlib.Core.List.{List, [], ◌∷◌}
 use Prim.Native.Nat.{ℕ, ◌≤◌}
 use lib.ListN.{length, take, drop}
 use Rattle.terms.specs.Limits.{most_firings}
-use Rattle.refusals.specs.declared.Check.TheVariants.{Fine}
 use Rattle.nets.specs.Nets as nets
 use Rattle.nets.specs.Nets.{Ends}
-use Rattle.format.specs.Read.{sound}
 use Rattle.format.specs.Contents.{Contents}
 use Rattle.format.specs.Formed.{Formed}
 use Rattle.firing.specs.Table.{StaysWithin}
@@ -32,19 +31,19 @@ module _ (x : Contents) (f : Formed x) (list : List ℕ) (m : Marking) (long : l
   n = net.places
 
   abbrev after : List ℕ
-  after = (list_of (sound x) list m).marking.tokens
+  after = (list_of (Ok x) list m).marking.tokens
 
-  led_to : (list_of (sound x) list m).answer ≡ Fine → after ≡ (walked (sound x) (steps list) m).tokens
-  led_to e = ap (λ (a : Traced). a.marking.tokens) (fine_walked list m (sound x) e)
+  led_to : (list_of (Ok x) list m).answer ≡ (Ok tt) → after ≡ (walked (Ok x) (steps list) m).tokens
+  led_to e = ap (λ (a : Traced). a.marking.tokens) (fine_walked list m (Ok x) e)
 
-  pub list_ends : (list_of (sound x) list m).answer ≡ Fine → Ends net (take n m.tokens) list (take n after) × (drop n after ≡ drop n m.tokens)
+  pub list_ends : (list_of (Ok x) list m).answer ≡ (Ok tt) → Ends net (take n m.tokens) list (take n after) × (drop n after ≡ drop n m.tokens)
   list_ends e =
-      let (w, b) = walk_ends x f (steps list) m long ((fine_exactly list m (sound x)).0 e).each_fine in
+      let (w, b) = walk_ends x f (steps list) m long ((fine_exactly list m (Ok x)).0 e).each_fine in
       (subst (λ z. Ends net (take n m.tokens) z (take n after)) (same_numbers list) (subst (λ (z : List ℕ). Ends net (take n m.tokens) (numbers (steps list)) (take n z)) (sym (led_to e)) w), ap (drop n) (led_to e) ∙ b)
 
   pub list_follows : (e : nets.Marking) → length list ≤ most_firings → Ends net (take n m.tokens) list e → StaysWithin net (take n m.tokens) list
-      → ((list_of (sound x) list m).answer ≡ Fine) × (take n after ≡ e)
+      → ((list_of (Ok x) list m).answer ≡ (Ok tt)) × (take n after ≡ e)
   list_follows e few h l =
       let (a, b) = walk_follows x f (steps list) m e long (subst (λ z. Ends net (take n m.tokens) z e) (sym (same_numbers list)) h) (subst (λ z. StaysWithin net (take n m.tokens) z) (sym (same_numbers list)) l) in
-      let g : (list_of (sound x) list m).answer ≡ Fine = (fine_exactly list m (sound x)).1 (record { contents = x; is_read = refl; few = few; each_fine = a }) in
+      let g : (list_of (Ok x) list m).answer ≡ (Ok tt) = (fine_exactly list m (Ok x)).1 (record { contents = x; is_read = refl; few = few; each_fine = a }) in
       (g, ap (take n) (led_to g) ∙ b)

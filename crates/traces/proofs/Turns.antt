@@ -1,4 +1,5 @@
 -- The steps of a list, one at a time: a fine step leaves the rest to its marking, a refused one ends the list, and behind the last nothing is left.
+use Rattle.std.specs.Prelude.{Err, Ok}
 use mathlib.Core.Path.{◌≡◌, sym, ap, ◌∙◌}
 use mathlib.Core.List.{List, ◌∷◌}
 use Prim.Native.Nat.{ℕ, suc, ◌+◌, ◌≤◌, ◌<◌}
@@ -6,8 +7,7 @@ use native.Mathlib.Omega.{arith}
 use lib.ListN.{length, get_or, drop, drop_of_length-le}
 use lib.Seq.{drop-cons}
 use Rattle.refusals.specs.declared.Refusal.{Refusal}
-use Rattle.refusals.specs.declared.Check.{Check}
-use Rattle.refusals.specs.declared.Check.TheVariants.{Fine, Refused}
+use Rattle.refusals.specs.Refusals.{Check}
 use Rattle.format.specs.Read.{Read}
 use Rattle.format.specs.Contents.{Contents}
 use Rattle.walk.specs.Walk.{step_of}
@@ -30,17 +30,17 @@ module _ (y : Read Contents) (m : Marking) (list : List ℕ) (i : ℕ) (held : M
       let next : suc i ≡ i + 1 = omega arith in
       ap (λ (ts : List ℕ). steps_from y m (i + 1) ts held) (drop-cons list i 0 h ∙ ap (λ (k : ℕ). get_or list i 0 ∷ drop k list) next)
 
-  pub none_left : length list ≤ i → left ≡ traced 0 Fine held
+  pub none_left : length list ≤ i → left ≡ traced 0 (Ok tt) held
   unfolding steps_from
   none_left h = ap (λ (ts : List ℕ). steps_from y m (i + 1) ts held) (drop_of_length-le list h)
 
   module _ (s : Moved) (below : i < length list) (is : s ≡ step_of y (numbered (get_or list i 0)) held) where
-    pub goes_on : s.answer ≡ Fine → left ≡ steps_from y m (i + 1 + 1) (drop (i + 1) list) s.marking
+    pub goes_on : s.answer ≡ (Ok tt) → left ≡ steps_from y m (i + 1 + 1) (drop (i + 1) list) s.marking
     goes_on e =
         one_more below ∙ ap after (sym is)
         ∙ ap (λ (q : Check). unless q (i + 1) m (steps_from y m (i + 1 + 1) (drop (i + 1) list) s.marking)) e
 
-    pub stops : {r : Refusal} → s.answer ≡ Refused r → left ≡ traced (i + 1) s.answer m
+    pub stops : {r : Refusal} → s.answer ≡ Err r → left ≡ traced (i + 1) s.answer m
     stops e =
         one_more below ∙ ap after (sym is)
         ∙ ap (λ (q : Check). unless q (i + 1) m (steps_from y m (i + 1 + 1) (drop (i + 1) list) s.marking)) e

@@ -1,12 +1,11 @@
 -- A list of transitions fired in one call: 02, req 01.
-use Rattle.std.specs.Prelude.{List, [], ◌∷◌, ℕ, ◌+◌, leb, length}
+use Rattle.std.specs.Prelude.{List, [], ◌∷◌, ℕ, ◌+◌, leb, length, Err, Ok}
 use Rattle.terms.specs.Limits.{most_firings}
-use Rattle.refusals.specs.Refusals.{long_list}
+use Rattle.refusals.specs.declared.Refusal.TheVariants.{LongList}
 use Rattle.terms.specs.declared.Transition.{Transition}
-use Rattle.format.specs.Read.{Read, sound, refused, choose}
+use Rattle.format.specs.Read.{Read, choose}
 use Rattle.format.specs.Contents.{Contents}
-use Rattle.refusals.specs.declared.Check.{Check}
-use Rattle.refusals.specs.declared.Check.TheVariants.{Fine, Refused}
+use Rattle.refusals.specs.Refusals.{Check}
 use Rattle.walk.specs.Walk.{step_of}
 use Rattle.walk.specs.declared.Marking.{Marking}
 use Rattle.traces.specs.declared.Traced.{Traced}
@@ -20,12 +19,12 @@ numbered t = record { 0 = t }
 
 -- A refused step ends the list: the answer has its position, and the marking is that before the call. Behind any other the rest decides.
 abbrev pub unless : Check → ℕ → Marking → Traced → Traced
-unless Fine position m rest = rest
-unless (Refused r) position m rest = traced position (Refused r) m
+unless (Ok u) position m rest = rest
+unless (Err r) position m rest = traced position (Err r) m
 
 -- The steps from a position on, each from the marking that the step before it left; m is the marking before the call.
 unfoldable pub steps_from : Read Contents → Marking → ℕ → List ℕ → Marking → Traced
-steps_from y m position [] held = traced 0 Fine held
+steps_from y m position [] held = traced 0 (Ok tt) held
 steps_from y m position (t ∷ ts) held = unless (step_of y (numbered t) held).answer position m (steps_from y m (position + 1) ts (step_of y (numbered t) held).marking)
 
 -- Positions are counted from 1.
@@ -34,5 +33,5 @@ fired_list y list m = steps_from y m 1 list m
 
 -- the sheet's refusal, then 17, before any step is tried
 abbrev pub list_of : Read Contents → List ℕ → Marking → Traced
-list_of (refused r) list m = traced 0 (Refused r) m
-list_of (sound x) list m = choose (leb (length list) most_firings) (fired_list (sound x) list m) (traced 0 (Refused (long_list (length list))) m)
+list_of (Err r) list m = traced 0 (Err r) m
+list_of (Ok x) list m = choose (leb (length list) most_firings) (fired_list (Ok x) list m) (traced 0 (Err (LongList (length list))) m)

@@ -1,4 +1,5 @@
 -- Two answers that fit a statement are equal: a claim has one reduced form, and of two lowest twins neither is below the other.
+use Rattle.std.specs.Prelude.{Err, Ok}
 use mathlib.Core.Path.{◌≡◌, refl, sym, ap, ◌∙◌}
 use mathlib.Core.Bool.{Bool, true, false}
 use Prim.Native.Nat.{ℕ, zero, suc, ◌≤◌}
@@ -7,10 +8,9 @@ use lib.Dec.{ltb}
 use borrow.Author.Tests.{ltb-true, ltb-false}
 use Rattle.terms.specs.declared.Claim.{Claim}
 use Rattle.nets.proofs.ReducedForm.{one_reduced_form}
-use Rattle.format.specs.Read.{Read, sound, refused}
+use Rattle.format.specs.Read.{Read}
 use Rattle.format.specs.Contents.{Contents, half_space, claim}
-use Rattle.refusals.specs.declared.Check.{Check}
-use Rattle.refusals.specs.declared.Check.TheVariants.{Fine, Refused}
+use Rattle.refusals.specs.Refusals.{Check}
 use Rattle.claims.specs.Held.{claim_check}
 use Rattle.twins.specs.declared.Reduced.{Reduced}
 use Rattle.twins.specs.declared.Twin.{Twin}
@@ -19,12 +19,12 @@ use Rattle.twins.specs.Answers.{shown_form, IsReducedIn, IsReducedOf, NoTwinBefo
 
 -- reduced forms of a claim of a sheet
 reduced_in : (q : Check) (x : Contents) (i : Claim) (r s : Reduced) → IsReducedIn q x i r → IsReducedIn q x i s → r ≡ s
-reduced_in Fine x i r s a b = a.2 ∙ ap shown_form (one_reduced_form (half_space (claim x i.0)) a.0 b.0 a.1 b.1) ∙ sym b.2
-reduced_in (Refused q) x i r s a b = a ∙ sym b
+reduced_in (Ok u) x i r s a b = a.2 ∙ ap shown_form (one_reduced_form (half_space (claim x i.0)) a.0 b.0 a.1 b.1) ∙ sym b.2
+reduced_in (Err q) x i r s a b = a ∙ sym b
 
 pub one_reduced : (y : Read Contents) (i : Claim) (r s : Reduced) → IsReducedOf y i r → IsReducedOf y i s → r ≡ s
-one_reduced (refused q) i r s a b = a ∙ sym b
-one_reduced (sound x) i r s a b = reduced_in (claim_check (sound x) i) x i r s a b
+one_reduced (Err q) i r s a b = a ∙ sym b
+one_reduced (Ok x) i r s a b = reduced_in (claim_check (Ok x) i) x i r s a b
 
 -- the lowest twin
 first_one : (x : Contents) (i j k : ℕ) → IsFirstTwin x i j → IsFirstTwin x i k → k ≤ j
@@ -58,9 +58,9 @@ says_one x i twins.Without (twins.Refused q) a b = absurd b
 says_one x i (twins.Refused q) s a b = absurd a
 
 twin_in : (q : Check) (x : Contents) (i : Claim) (r s : Twin) → IsTwinIn q x i r → IsTwinIn q x i s → r ≡ s
-twin_in Fine x i r s a b = says_one x i.0 r s a b
-twin_in (Refused q) x i r s a b = a ∙ sym b
+twin_in (Ok u) x i r s a b = says_one x i.0 r s a b
+twin_in (Err q) x i r s a b = a ∙ sym b
 
 pub one_twin : (y : Read Contents) (i : Claim) (r s : Twin) → IsTwinOf y i r → IsTwinOf y i s → r ≡ s
-one_twin (refused q) i r s a b = a ∙ sym b
-one_twin (sound x) i r s a b = twin_in (claim_check (sound x) i) x i r s a b
+one_twin (Err q) i r s a b = a ∙ sym b
+one_twin (Ok x) i r s a b = twin_in (claim_check (Ok x) i) x i r s a b

@@ -1,12 +1,11 @@
 -- The reduced form and the earlier twin of a claim, as the calls answer: document 01, "Half spaces and verdicts", "The listing".
-use Rattle.std.specs.Prelude.{◌≡◌, [], ℕ, zero, suc, ◌≤◌, ◌<◌, pos}
+use Rattle.std.specs.Prelude.{◌≡◌, [], ℕ, zero, suc, ◌≤◌, ◌<◌, pos, Err, Ok}
 use Rattle.terms.specs.declared.Claim.{Claim}
 use Rattle.nets.specs.HalfSpaces.{HalfSpace, sixteen}
 use Rattle.nets.specs.Reduced.{IsReduced, Twins}
-use Rattle.format.specs.Read.{Read, sound, refused}
+use Rattle.format.specs.Read.{Read}
 use Rattle.format.specs.Contents.{Contents, half_space, claim}
-use Rattle.refusals.specs.declared.Check.{Check}
-use Rattle.refusals.specs.declared.Check.TheVariants.{Fine, Refused}
+use Rattle.refusals.specs.Refusals.{Check}
 use Rattle.claims.specs.Held.{claim_check}
 use Rattle.twins.specs.declared.Reduced.{Reduced}
 use Rattle.twins.specs.declared.Twin.{Twin}
@@ -14,19 +13,19 @@ use Rattle.twins.specs.declared.Twin.TheVariants as twins
 
 -- a reduced form as sixteen numbers, zero beyond place n; a refusal has zeros
 abbrev pub shown_form : HalfSpace → Reduced
-shown_form f = record { answer = Fine; coefficients = sixteen (pos 0) f.coefficients; constant = f.constant }
+shown_form f = record { answer = (Ok tt); coefficients = sixteen (pos 0) f.coefficients; constant = f.constant }
 
 abbrev pub no_form : Check → Reduced
 no_form answer = record { answer = answer; coefficients = sixteen (pos 0) []; constant = pos 0 }
 
 -- the sheet's refusal, then 11, then the reduced form of claim i
 abbrev pub IsReducedIn : Check → Contents → Claim → Reduced → Type 0
-IsReducedIn Fine x i r = (f : HalfSpace) × IsReduced (half_space (claim x i.0)) f × (r ≡ shown_form f)
-IsReducedIn (Refused q) x i r = r ≡ no_form (Refused q)
+IsReducedIn (Ok u) x i r = (f : HalfSpace) × IsReduced (half_space (claim x i.0)) f × (r ≡ shown_form f)
+IsReducedIn (Err q) x i r = r ≡ no_form (Err q)
 
 abbrev pub IsReducedOf : Read Contents → Claim → Reduced → Type 0
-IsReducedOf (refused q) i r = r ≡ no_form (Refused q)
-IsReducedOf (sound x) i r = IsReducedIn (claim_check (sound x) i) x i r
+IsReducedOf (Err q) i r = r ≡ no_form (Err q)
+IsReducedOf (Ok x) i r = IsReducedIn (claim_check (Ok x) i) x i r
 
 -- none of the claims before claim j is a twin of claim i
 unfoldable pub NoTwinBefore : Contents → ℕ → ℕ → Type 0
@@ -52,9 +51,9 @@ TwinSays x i (twins.Refused q) = ⊥
 
 -- the sheet's refusal, then 11, then the twin
 abbrev pub IsTwinIn : Check → Contents → Claim → Twin → Type 0
-IsTwinIn Fine x i r = TwinSays x i.0 r
-IsTwinIn (Refused q) x i r = r ≡ twins.Refused q
+IsTwinIn (Ok u) x i r = TwinSays x i.0 r
+IsTwinIn (Err q) x i r = r ≡ twins.Refused q
 
 abbrev pub IsTwinOf : Read Contents → Claim → Twin → Type 0
-IsTwinOf (refused q) i r = r ≡ twins.Refused q
-IsTwinOf (sound x) i r = IsTwinIn (claim_check (sound x) i) x i r
+IsTwinOf (Err q) i r = r ≡ twins.Refused q
+IsTwinOf (Ok x) i r = IsTwinIn (claim_check (Ok x) i) x i r

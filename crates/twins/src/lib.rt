@@ -1,10 +1,9 @@
 // Reduced forms and twins: document 01, "Half spaces and verdicts".
 #![tactic(auto)]
 
-ghost use Rattle.std.specs.Prelude.{◌≡◌, ◌≤◌, pos, take};
+ghost use Rattle.std.specs.Prelude.{◌≡◌, ◌≤◌, pos, take, Ok};
 ghost use Rattle.nets.specs.HalfSpaces.{sixteen};
 ghost use Rattle.nets.specs.Reduced.{IsReduced};
-ghost use Rattle.format.specs.Read.{sound};
 ghost use Rattle.format.specs.Contents.{Contents, half_space, claim};
 ghost use Rattle.format.specs.Reading.{reading};
 ghost use Rattle.known.specs.Known.{Known};
@@ -35,7 +34,7 @@ pub enum Twin {
 }
 
 impl Reduced {
-    fn refused(answer: Check) -> Reduced
+    fn Err(answer: Check) -> Reduced
         ensures { result ≡ no_form answer }
     {
         Reduced {
@@ -49,7 +48,7 @@ impl Reduced {
 // The reduced form of claim i of a sound sheet.
 fn form_at(sheet: &[u8], counts: Counts, i: usize) -> Form
     requires { Known sheet.now counts × (1 ≤ i) × (i ≤ counts.claims) }
-    ensures { ((x : Contents) → reading sheet.now ≡ sound x → IsReduced (half_space (claim x i)) (space_of counts.places result.coefficients result.constant)) × (result.coefficients ≡ sixteen (pos 0) (take counts.places result.coefficients)) }
+    ensures { ((x : Contents) → reading sheet.now ≡ Ok x → IsReduced (half_space (claim x i)) (space_of counts.places result.coefficients result.constant)) × (result.coefficients ≡ sixteen (pos 0) (take counts.places result.coefficients)) }
 {
     let n = counts.places;
     let at = behind_claims(n, counts.transitions, i - 1);
@@ -61,7 +60,7 @@ fn form_at(sheet: &[u8], counts: Counts, i: usize) -> Form
 // The lowest claim before claim i of a sound sheet that is its twin, or 0.
 pub fn first_twin(sheet: &[u8], counts: Counts, i: usize) -> usize
     requires { Known sheet.now counts × (1 ≤ i) × (i ≤ counts.claims) }
-    ensures { (x : Contents) → reading sheet.now ≡ sound x → IsTwinNumber x i result }
+    ensures { (x : Contents) → reading sheet.now ≡ Ok x → IsTwinNumber x i result }
 {
     let n = counts.places;
     let form = form_at(sheet, counts, i);
@@ -82,11 +81,11 @@ pub fn reduced_of(sheet: &[u8], i: Claim) -> Reduced
 {
     let answer = read(sheet);
     let Reading::Sound(counts) = answer else {
-        return Reduced::refused(answer.check());
+        return Reduced::Err(answer.check());
     };
     let there = among(i.0, counts.claims);
     if !there {
-        return Reduced::refused(Check::Refused(Refusal::no_claim(i)));
+        return Reduced::Err(Check::Refused(Refusal::no_claim(i)));
     }
     let form = form_at(sheet, counts, i.0);
     let coefficients = form.coefficients;

@@ -1,9 +1,8 @@
 // The verdict on a claim: start-outside, target-inside, broken, proof. Demand 3 and document 01, "Half spaces and verdicts".
 #![tactic(auto)]
 
-ghost use Rattle.std.specs.Prelude.{◌≡◌, ◌≤◌, length};
+ghost use Rattle.std.specs.Prelude.{◌≡◌, ◌≤◌, length, Ok};
 ghost use Rattle.lent.specs.Wiped.{Wiped};
-ghost use Rattle.format.specs.Read.{sound};
 ghost use Rattle.format.specs.Contents.{Contents, half_space, claim};
 ghost use Rattle.format.specs.Reading.{reading};
 ghost use Rattle.pairs.specs.Pairs.{area_after};
@@ -35,7 +34,7 @@ fn checked(counts: Counts, i: Claim, marks: usize, queue: usize) -> Check
 fn settled(sheet: &[u8], counts: Counts, i: usize, marks: &mut [u8], queue: &mut [u16]) -> Judged
     requires known { Known sheet.now counts × (1 ≤ i) × (i ≤ counts.claims) }
     requires in_bounds { (20000 ≤ length marks.old) × (20000 ≤ length queue.old) }
-    ensures judges { (x : Contents) → reading sheet.now ≡ sound x → Judges x.setting (half_space (claim x i)) result }
+    ensures judges { (x : Contents) → reading sheet.now ≡ Ok x → Judges x.setting (half_space (claim x i)) result }
     ensures wiped { Wiped 20000 marks.old marks.new × Wiped 20000 queue.old queue.new }
 {
     let r = judge_claim(

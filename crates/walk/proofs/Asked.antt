@@ -1,4 +1,5 @@
 -- The transition that was asked for, of a sound sheet: where its weights stand, and that the step is the firing by them.
+use Rattle.std.specs.Prelude.{Err, Ok}
 use mathlib.Core.Path.{◌≡◌, sym, ap, ap₂, ◌∙◌}
 use mathlib.Core.Bool.{Bool, true, false}
 use mathlib.Core.List.{List, ◌∷◌}
@@ -7,7 +8,7 @@ use native.Mathlib.Omega.{arith}
 use lib.ListN.{length, take}
 use lib.Seq.{take_at}
 use Rattle.terms.specs.Limits.{among}
-use Rattle.refusals.specs.Refusals.{not_a_transition}
+use Rattle.refusals.specs.declared.Refusal.TheVariants.{NotATransition}
 use Rattle.terms.specs.declared.Transition.{Transition}
 use Rattle.nets.specs.Nets as nets
 use Rattle.nets.specs.HalfSpaces.{sixteen}
@@ -15,7 +16,6 @@ use Rattle.format.specs.Read.{choose}
 use Rattle.format.specs.Reading.{bytes, transition_size, transitions_from, reading}
 use Rattle.format.proofs.Standing.{length-bytes}
 use Rattle.reader.specs.declared.Counts.{Counts}
-use Rattle.refusals.specs.declared.Check.TheVariants.{Fine, Refused}
 use Rattle.known.specs.Known.{Known}
 use Rattle.known.proofs.Taken.{among_some}
 use Rattle.known.proofs.Known as known
@@ -32,14 +32,14 @@ module _ (s : List ℕ) (t : Transition) (k : Counts) (q : Known s k) where
 
   -- the step, by whether the number is a transition's
   abbrev by_number : Marking → Bool → Moved
-  by_number m b = moved (first (choose b Fine (Refused (not_a_transition t)) ∷ firing_checks net.places (nets.transition net t.0) (take net.places m.tokens))) (fired_in net.places (nets.transition net t.0) m.tokens) m
+  by_number m b = moved (first (choose b (Ok tt) (Err (NotATransition t)) ∷ firing_checks net.places (nets.transition net t.0) (take net.places m.tokens))) (fired_in net.places (nets.transition net t.0) m.tokens) m
 
   numbered : (m : Marking) (b : Bool) → among t.0 k.transitions ≡ b → step_of (reading s) t m ≡ by_number m b
   numbered m b h =
       ap (λ y. step_of y t m) q.is_read
       ∙ ap (by_number m) (ap (λ (k : Counts). among t.0 k.transitions) q.counts ∙ h)
 
-  pub missing : (m : Marking) → among t.0 k.transitions ≡ false → step_of (reading s) t m ≡ answered (Refused (not_a_transition t)) m
+  pub missing : (m : Marking) → among t.0 k.transitions ≡ false → step_of (reading s) t m ≡ answered (Err (NotATransition t)) m
   missing m h = numbered m false h
 
   module _ (is_one : among t.0 k.transitions ≡ true) where

@@ -1,4 +1,5 @@
 -- The table's "given exactly when" for a step of a sound sheet: 12, 15 and 16 are given just where the net says so, each with its detail, and otherwise the step is fine.
+use Rattle.std.specs.Prelude.{Err, Ok}
 use mathlib.Core.Path.{◌≡◌, refl, sym, ap, ◌∙◌, subst}
 use mathlib.Core.Bool.{Bool, true, false}
 use mathlib.Core.Logic.{◌↔◌, ◌⊎◌, inl, inr, ⊎_elim}
@@ -10,18 +11,18 @@ use lib.ListN.{length, take, get_or-eq_default}
 use lib.Seq.{length-take-le}
 use borrow.Author.Tests.{le-leb, ltb-true, ltb-false}
 use Rattle.terms.specs.Limits.{among, most_tokens}
-use Rattle.refusals.specs.Refusals.{detail_of, not_a_transition, not_enabled, too_many}
+use Rattle.refusals.specs.declared.Refusal.TheVariants.{NotATransition, NotEnabled, TooManyTokens}
+use Rattle.refusals.specs.Refusals.{detail_of}
 use Rattle.terms.specs.declared.Place.{Place}
 use Rattle.terms.specs.declared.Transition.{Transition}
 use Rattle.nets.specs.Nets as nets
 use Rattle.nets.specs.Nets.{◌⊑◌, Enabled, IsTransition, fire, none}
 use Rattle.nets.specs.Verdicts.{Setting}
-use Rattle.format.specs.Read.{sound, choose}
+use Rattle.format.specs.Read.{choose}
 use Rattle.format.specs.Contents.{Contents}
 use Rattle.format.specs.Formed.{FormedTransition, FormedSetting}
 use Rattle.format.proofs.Sound.{places_fit_lem}
-use Rattle.refusals.specs.declared.Check.{Check}
-use Rattle.refusals.specs.declared.Check.TheVariants.{Fine, Refused}
+use Rattle.refusals.specs.Refusals.{Check}
 use Rattle.known.proofs.Known.{all_at}
 use Rattle.known.proofs.Taken.{among_some}
 use Rattle.firing.specs.Firing.{is_short, is_over, lowest_short, lowest_over}
@@ -33,12 +34,12 @@ use Rattle.firing.proofs.Fires.{fire-length}
 
 -- the number and the detail of an answer tell refusals apart
 abbrev number_of : Check → ℕ
-number_of Fine = 0
-number_of (Refused r) = r.number
+number_of (Ok u) = 0
+number_of (Err r) = r.number
 
 abbrev check_detail : Check → ℕ
-check_detail Fine = 0
-check_detail (Refused r) = detail_of r.detail
+check_detail (Ok u) = 0
+check_detail (Err r) = detail_of r.detail
 
 same_place : (p q : Place) → p.0 ≡ q.0 → p ≡ q
 same_place p q e = ap {B = Place} (λ (i : ℕ). record { 0 = i }) e
@@ -90,11 +91,11 @@ module _ (x : Contents) (f : FormedSetting x.setting) (t : Transition) (lent : M
     pub put_long : length w.put ≡ length m
     put_long = (weights_formed x.setting f t.0 i).put.places ∙ sym length_places
 
-    enabled_if : lowest_short n w.taken m ≡ Fine → Enabled w m
+    enabled_if : lowest_short n w.taken m ≡ (Ok tt) → Enabled w m
     unfolding Enabled ◌⊑◌
     enabled_if e = (
       taken_long,
-      λ p. ⊎_elim (λ l. ltb-false _ _ (none_found (is_short w.taken m) not_enabled n e p l))
+      λ p. ⊎_elim (λ l. ltb-false _ _ (none_found (is_short w.taken m) NotEnabled n e p l))
           (λ l. rw (get_or-eq_default w.taken 0 {n = p} (omega (arith, taken_long, length_places))) (omega arith)) (below_or_not p n),
     )
 
@@ -102,19 +103,19 @@ module _ (x : Contents) (f : FormedSetting x.setting) (t : Transition) (lent : M
     unfolding Enabled ◌⊑◌
     not_enabled_if p s e = omega (arith, e.1 (p.0 - 1))
 
-    none_over_if : lowest_over n (fire w m) ≡ Fine → (p : Place) → Over w m p → ⊥
-    none_over_if e p o = ⊎_elim (λ l. omega (arith, ltb-false most_tokens (tokens_in (fire w m) p) (none_found (is_over (fire w m)) too_many n e (p.0 - 1) l)))
+    none_over_if : lowest_over n (fire w m) ≡ (Ok tt) → (p : Place) → Over w m p → ⊥
+    none_over_if e p o = ⊎_elim (λ l. omega (arith, ltb-false most_tokens (tokens_in (fire w m) p) (none_found (is_over (fire w m)) TooManyTokens n e (p.0 - 1) l)))
         (λ l. omega (arith, get_or-eq_default (fire w m) 0 {n = p.0 - 1} (omega (arith, fire-length w m taken_long put_long, length_places)))) (below_or_not (p.0 - 1) n)
 
   -- the four answers, and what the net says of each
   pub data Outcome (a : Check) : Type 0 where
-    no_transition : (IsTransition net t.0 → ⊥) → a ≡ Refused (not_a_transition t) → Outcome a
-    short : IsTransition net t.0 → (p : Place) → IsLowest (Short w m) p → a ≡ Refused (not_enabled p) → Outcome a
-    over : IsTransition net t.0 → Enabled w m → (p : Place) → IsLowest (Over w m) p → a ≡ Refused (too_many p) → Outcome a
-    fine : IsTransition net t.0 → Enabled w m → ((p : Place) → Over w m p → ⊥) → a ≡ Fine → Outcome a
+    no_transition : (IsTransition net t.0 → ⊥) → a ≡ Err (NotATransition t) → Outcome a
+    short : IsTransition net t.0 → (p : Place) → IsLowest (Short w m) p → a ≡ Err (NotEnabled p) → Outcome a
+    over : IsTransition net t.0 → Enabled w m → (p : Place) → IsLowest (Over w m) p → a ≡ Err (TooManyTokens p) → Outcome a
+    fine : IsTransition net t.0 → Enabled w m → ((p : Place) → Over w m p → ⊥) → a ≡ (Ok tt) → Outcome a
 
   abbrev by_number : Bool → Check
-  by_number b = first (choose b Fine (Refused (not_a_transition t)) ∷ firing_checks n w m)
+  by_number b = first (choose b (Ok tt) (Err (NotATransition t)) ∷ firing_checks n w m)
 
   abbrev by_checks : Check → Check → Check
   by_checks a b = first (a ∷ b ∷ [])
@@ -125,14 +126,14 @@ module _ (x : Contents) (f : FormedSetting x.setting) (t : Transition) (lent : M
   outcome_of true h =
       let i = among_some t.0 (length net.transitions) h in
       ⊎_elim
-      (λ e. ⊎_elim (λ g. fine i (enabled_if i e) (none_over_if i g) (ap (λ a. by_checks a (lowest_over n (fire w m))) e ∙ ap (λ b. by_checks Fine b) g))
-      (λ o. over i (enabled_if i e) o.place o.is_lowest (ap (λ a. by_checks a (lowest_over n (fire w m))) e ∙ ap (λ b. by_checks Fine b) o.is_refused))
-      (none_or_lowest (is_over (fire w m)) too_many n (Over w m) (λ p e. ltb-true _ _ e) (λ p e o. omega (arith, ltb-false most_tokens (tokens_in (fire w m) p) e))))
+      (λ e. ⊎_elim (λ g. fine i (enabled_if i e) (none_over_if i g) (ap (λ a. by_checks a (lowest_over n (fire w m))) e ∙ ap (λ b. by_checks (Ok tt) b) g))
+      (λ o. over i (enabled_if i e) o.place o.is_lowest (ap (λ a. by_checks a (lowest_over n (fire w m))) e ∙ ap (λ b. by_checks (Ok tt) b) o.is_refused))
+      (none_or_lowest (is_over (fire w m)) TooManyTokens n (Over w m) (λ p e. ltb-true _ _ e) (λ p e o. omega (arith, ltb-false most_tokens (tokens_in (fire w m) p) e))))
       (λ s. short i s.place s.is_lowest (ap (λ a. by_checks a (lowest_over n (fire w m))) s.is_refused))
-      (none_or_lowest (is_short w.taken m) not_enabled n (Short w m) (λ p e. ltb-true _ _ e) (λ p e o. omega (arith, ltb-false (tokens_in m p) (tokens_in w.taken p) e)))
+      (none_or_lowest (is_short w.taken m) NotEnabled n (Short w m) (λ p e. ltb-true _ _ e) (λ p e o. omega (arith, ltb-false (tokens_in m p) (tokens_in w.taken p) e)))
 
   abbrev answer : Check
-  answer = (step_of (sound x) t lent).answer
+  answer = (step_of (Ok x) t lent).answer
 
   pub outcome : Outcome answer
   outcome = outcome_of (among t.0 (length net.transitions)) refl
@@ -142,64 +143,64 @@ module _ (x : Contents) (f : FormedSetting x.setting) (t : Transition) (lent : M
   apart a b e g = ap number_of (sym e ∙ g)
 
   -- 12: transition number 0 or above T, with that number
-  pub twelve_exactly : (answer ≡ Refused (not_a_transition t)) ↔ (IsTransition net t.0 → ⊥)
+  pub twelve_exactly : (answer ≡ Err (NotATransition t)) ↔ (IsTransition net t.0 → ⊥)
   twelve_exactly = (told outcome, given outcome)
     where
-      told : Outcome answer → answer ≡ Refused (not_a_transition t) → IsTransition net t.0 → ⊥
+      told : Outcome answer → answer ≡ Err (NotATransition t) → IsTransition net t.0 → ⊥
       told (no_transition h g) e = h
       told (short i p l g) e = absurd (omega (arith, apart _ _ e g))
       told (over i h p l g) e = absurd (omega (arith, apart _ _ e g))
       told (fine i h l g) e = absurd (omega (arith, apart _ _ e g))
 
-      given : Outcome answer → (IsTransition net t.0 → ⊥) → answer ≡ Refused (not_a_transition t)
+      given : Outcome answer → (IsTransition net t.0 → ⊥) → answer ≡ Err (NotATransition t)
       given (no_transition h g) k = g
       given (short i p l g) k = absurd (k i)
       given (over i h p l g) k = absurd (k i)
       given (fine i h l g) k = absurd (k i)
 
   -- 15: the transition is not enabled, with the lowest place that is short
-  pub fifteen_exactly : (p : Place) → (answer ≡ Refused (not_enabled p)) ↔ (IsTransition net t.0 × (Enabled w m → ⊥) × IsLowest (Short w m) p)
+  pub fifteen_exactly : (p : Place) → (answer ≡ Err (NotEnabled p)) ↔ (IsTransition net t.0 × (Enabled w m → ⊥) × IsLowest (Short w m) p)
   fifteen_exactly p = (told outcome, given outcome)
     where
-      told : Outcome answer → answer ≡ Refused (not_enabled p) → IsTransition net t.0 × (Enabled w m → ⊥) × IsLowest (Short w m) p
+      told : Outcome answer → answer ≡ Err (NotEnabled p) → IsTransition net t.0 × (Enabled w m → ⊥) × IsLowest (Short w m) p
       told (no_transition h g) e = absurd (omega (arith, apart _ _ e g))
       told (short i o l g) e = (i, not_enabled_if i o l.holds, subst (IsLowest (Short w m)) (same_place o p (ap check_detail (sym g ∙ e))) l)
       told (over i h o l g) e = absurd (omega (arith, apart _ _ e g))
       told (fine i h l g) e = absurd (omega (arith, apart _ _ e g))
 
-      given : Outcome answer → IsTransition net t.0 × (Enabled w m → ⊥) × IsLowest (Short w m) p → answer ≡ Refused (not_enabled p)
+      given : Outcome answer → IsTransition net t.0 × (Enabled w m → ⊥) × IsLowest (Short w m) p → answer ≡ Err (NotEnabled p)
       given (no_transition h g) k = absurd (h k.0)
-      given (short i o l g) k = g ∙ ap (λ (p : Place). Refused (not_enabled p)) (one_lowest (Short w m) o p l k.2)
+      given (short i o l g) k = g ∙ ap (λ (p : Place). Err (NotEnabled p)) (one_lowest (Short w m) o p l k.2)
       given (over i h o l g) k = absurd (k.1 h)
       given (fine i h l g) k = absurd (k.1 h)
 
   -- 16: it is enabled, and a place would pass 65,535 after the whole step, with the lowest such place
-  pub sixteen_exactly : (p : Place) → (answer ≡ Refused (too_many p)) ↔ (IsTransition net t.0 × Enabled w m × IsLowest (Over w m) p)
+  pub sixteen_exactly : (p : Place) → (answer ≡ Err (TooManyTokens p)) ↔ (IsTransition net t.0 × Enabled w m × IsLowest (Over w m) p)
   sixteen_exactly p = (told outcome, given outcome)
     where
-      told : Outcome answer → answer ≡ Refused (too_many p) → IsTransition net t.0 × Enabled w m × IsLowest (Over w m) p
+      told : Outcome answer → answer ≡ Err (TooManyTokens p) → IsTransition net t.0 × Enabled w m × IsLowest (Over w m) p
       told (no_transition h g) e = absurd (omega (arith, apart _ _ e g))
       told (short i o l g) e = absurd (omega (arith, apart _ _ e g))
       told (over i h o l g) e = (i, h, subst (IsLowest (Over w m)) (same_place o p (ap check_detail (sym g ∙ e))) l)
       told (fine i h l g) e = absurd (omega (arith, apart _ _ e g))
 
-      given : Outcome answer → IsTransition net t.0 × Enabled w m × IsLowest (Over w m) p → answer ≡ Refused (too_many p)
+      given : Outcome answer → IsTransition net t.0 × Enabled w m × IsLowest (Over w m) p → answer ≡ Err (TooManyTokens p)
       given (no_transition h g) k = absurd (h k.0)
       given (short i o l g) k = absurd (not_enabled_if i o l.holds k.1)
-      given (over i h o l g) k = g ∙ ap (λ (p : Place). Refused (too_many p)) (one_lowest (Over w m) o p l k.2)
+      given (over i h o l g) k = g ∙ ap (λ (p : Place). Err (TooManyTokens p)) (one_lowest (Over w m) o p l k.2)
       given (fine i h l g) k = absurd (l p k.2.holds)
 
   -- fine: it is enabled, and no place would pass 65,535
-  pub fine_exactly : (answer ≡ Fine) ↔ (IsTransition net t.0 × Enabled w m × ((p : Place) → Over w m p → ⊥))
+  pub fine_exactly : (answer ≡ (Ok tt)) ↔ (IsTransition net t.0 × Enabled w m × ((p : Place) → Over w m p → ⊥))
   fine_exactly = (told outcome, given outcome)
     where
-      told : Outcome answer → answer ≡ Fine → IsTransition net t.0 × Enabled w m × ((p : Place) → Over w m p → ⊥)
+      told : Outcome answer → answer ≡ (Ok tt) → IsTransition net t.0 × Enabled w m × ((p : Place) → Over w m p → ⊥)
       told (no_transition h g) e = absurd (omega (arith, apart _ _ e g))
       told (short i o l g) e = absurd (omega (arith, apart _ _ e g))
       told (over i h o l g) e = absurd (omega (arith, apart _ _ e g))
       told (fine i h l g) e = (i, h, l)
 
-      given : Outcome answer → IsTransition net t.0 × Enabled w m × ((p : Place) → Over w m p → ⊥) → answer ≡ Fine
+      given : Outcome answer → IsTransition net t.0 × Enabled w m × ((p : Place) → Over w m p → ⊥) → answer ≡ (Ok tt)
       given (no_transition h g) k = absurd (h k.0)
       given (short i o l g) k = absurd (not_enabled_if i o l.holds k.1)
       given (over i h o l g) k = absurd (k.2 o l.holds)

@@ -1,4 +1,5 @@
 -- `half_space_of` meets its contract: the sheet's refusal is passed on, then 11, and the numbers at the record of claim i are the claim's.
+use Rattle.std.specs.Prelude.{Err, Ok}
 use mathlib.Core.Path.{◌≡◌, ◌∙◌, sym, ap, ap₂}
 use mathlib.Core.Bool.{true}
 use mathlib.Core.List.{List}
@@ -11,12 +12,11 @@ use mir.Syntax.{w16}
 use mir.Val.{SFits}
 use mir.Facts.{to_z-of_z}
 use Rattle.terms.specs.Limits.{among}
-use Rattle.refusals.specs.Refusals.{not_a_claim}
+use Rattle.refusals.specs.declared.Refusal.TheVariants.{NotAClaim}
 use Rattle.nets.specs.HalfSpaces as spaces
 use Rattle.format.specs.Read.{choose}
 use Rattle.format.specs.Reading.{reading}
 use Rattle.reader.specs.declared.Counts.{Counts}
-use Rattle.refusals.specs.declared.Check.TheVariants.{Fine, Refused}
 use Rattle.claims.specs.Held.{no_half_space, half_space_in, half_space_of}
 use Rattle.known.specs.Known.{Known}
 use Rattle.claims.specs.declared.HalfSpace.{HalfSpace}
@@ -58,6 +58,6 @@ returns c =
     let b = c.behind_claims-at in
     let fits : SFits w16 h.result.constant = search rules in
     let yes : among a.i.0 (length q.contents.claims) ≡ true = tested ∙ not-false c.among-there.result c.if-not-there.false-raw in
-    ap₂ {C = HalfSpace} (λ (l : List ℤ) (z : ℤ). record { answer = Fine; coefficients = l; constant = z }) h.ensures.coefficients_value (to_z-of_z fits ∙ h.ensures.constant_value)
-    ∙ ap {B = HalfSpace} (λ (g : spaces.HalfSpace). record { answer = Fine; coefficients = spaces.sixteen (pos 0) g.coefficients; constant = g.constant }) (claim_is a.sheet.now k q a.i.0 i.0 i.1 b.result b.ensures.0)
-    ∙ sym (ap (λ y. half_space_of y a.i) q.is_read ∙ ap (λ t. choose t (half_space_in q.contents a.i.0) (no_half_space (Refused (not_a_claim a.i)))) yes)
+    ap₂ {C = HalfSpace} (λ (l : List ℤ) (z : ℤ). record { answer = (Ok tt); coefficients = l; constant = z }) h.ensures.coefficients_value (to_z-of_z fits ∙ h.ensures.constant_value)
+    ∙ ap {B = HalfSpace} (λ (g : spaces.HalfSpace). record { answer = (Ok tt); coefficients = spaces.sixteen (pos 0) g.coefficients; constant = g.constant }) (claim_is a.sheet.now k q a.i.0 i.0 i.1 b.result b.ensures.0)
+    ∙ sym (ap (λ y. half_space_of y a.i) q.is_read ∙ ap (λ t. choose t (half_space_in q.contents a.i.0) (no_half_space (Err (NotAClaim a.i)))) yes)

@@ -3,6 +3,7 @@ use mathlib.Core.Path.{◌≡◌}
 use mathlib.Core.List.{List}
 use Prim.Native.Nat.{ℕ, ◌≤◌, ◌-◌}
 use lib.ListN.{length}
+use Rattle.refusals.specs.declared.Refusal.TheVariants as refused
 use Rattle.format.specs.Read.{Read}
 use Rattle.format.specs.Reading.{each_fits}
 use Rattle.format.specs.Checked.{checked}
@@ -10,7 +11,7 @@ use Rattle.terms.specs.Limits.{weight_fits}
 use Rattle.fields.proofs.weights.Given as goal
 
 abbrev pub each : List ℕ → ℕ → ℕ → Read (Unit {0})
-each = each_fits weight_fits 4
+each = each_fits weight_fits refused.Weight
 
 abbrev pub invariant-loop-at : goal.invariant-loop-at
 invariant-loop-at l = (l.at ≤ l.end) × (l.end ≤ length l.s) × (checked (each l.s l.from l.count) ≡ checked (each l.s l.at (l.end - l.at)))

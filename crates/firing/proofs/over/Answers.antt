@@ -1,7 +1,7 @@
 -- `firing::over` meets its contract: the first place that would have too many is the lowest, and none is short, so nothing is taken below zero.
+use Rattle.std.specs.Prelude.{Err}
 use mathlib.Core.Path.{◌∙◌, sym, ap}
 use native.Mathlib.Omega.{arith}
-use Rattle.refusals.specs.declared.Check.TheVariants.{Refused}
 use Rattle.firing.proofs.Lowest.{found, passed, all_passed}
 use Rattle.firing.proofs.Fires.{enough_of, over_here, room_here}
 use Rattle.firing.proofs.over.Goals as goal
@@ -16,7 +16,7 @@ pub returns-then-added-left : goal.returns-then-added-left
 returns-then-added-left c =
     let a = c.args in
     let l = c.loop-p in
-    ap Refused c.too_many.ensures
+    ap Err c.too_many.ensures
     ∙ sym (l.invariant.1 ∙ found _ _ a.n l.p (omega arith) (over_here a.n a.tokens a.taken a.put (omega arith) (omega arith) (omega arith) (omega arith) l.p (omega arith) (omega (arith, c.wide-out.ensures.0, c.wide-added.ensures.0))))
 
 pub loop-p-preserved : goal.loop-p-preserved

@@ -1,7 +1,7 @@
 -- `firing::short` meets its contract: the first place that is short is the lowest, and those before it are passed.
+use Rattle.std.specs.Prelude.{Err}
 use mathlib.Core.Path.{◌∙◌, sym, ap}
 use native.Mathlib.Omega.{arith}
-use Rattle.refusals.specs.declared.Check.TheVariants.{Refused}
 use Rattle.firing.proofs.Lowest.{found, passed, all_passed}
 use Rattle.firing.proofs.Fires.{short_here, enough_here}
 use Rattle.firing.proofs.short.Goals as goal
@@ -11,7 +11,7 @@ returns-then-held-out c =
     let a = c.args in
     let l = c.loop-p in
     let w = c.wide-out in
-    ap Refused c.not_enabled.ensures
+    ap Err c.not_enabled.ensures
     ∙ sym (l.invariant.1 ∙ found _ _ a.n l.p (omega arith) (short_here a.n a.tokens a.taken l.p (omega arith) (omega (arith, w.ensures.0))))
 
 pub loop-p-preserved : goal.loop-p-preserved

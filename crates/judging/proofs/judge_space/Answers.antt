@@ -1,4 +1,5 @@
 -- `judge_space` meets its contract: each question is asked once those before it were answered.
+use Rattle.std.specs.Prelude.{Ok}
 use mathlib.Core.Path.{◌≡◌, refl, sym, ◌∙◌, subst}
 use mathlib.Core.Bool.{Bool}
 use mathlib.Core.List.{List}
@@ -11,7 +12,6 @@ use Rattle.nets.specs.Nets as nets
 use Rattle.nets.specs.HalfSpaces as spaces
 use Rattle.nets.specs.Verdicts as setting
 use Rattle.format.specs.Contents.{Contents}
-use Rattle.format.specs.Read.{sound}
 use Rattle.format.specs.Reading.{transition_in, reading}
 use Rattle.format.proofs.ClaimRecord.{sheet_of}
 use Rattle.known.proofs.Known.{same_contents, limits, transition_is, start_whole, start_is, target_whole, target_is, transitions_count}
@@ -52,7 +52,7 @@ inside_at-requires c = ((limits c.args.sheet.now c.args.counts c.requires.known)
 
 pub returns-then-not-inside_at : goal.returns-then-not-inside_at
 returns-then-not-inside_at c =
-    let for-all : (r : Judged) → Judges c.requires.known.contents.setting (half (goal.at.returns-then-not-inside_at c).Start) r → (y : Contents) → reading c.args.sheet.now ≡ sound y → Judges y.setting (half (goal.at.returns-then-not-inside_at c).Start) r = λ r j y e. subst (λ (z : Contents). Judges z.setting (half (goal.at.returns-then-not-inside_at c).Start) r) (same_contents c.args.sheet.now c.requires.known.contents y c.requires.known.is_read e) j in
+    let for-all : (r : Judged) → Judges c.requires.known.contents.setting (half (goal.at.returns-then-not-inside_at c).Start) r → (y : Contents) → reading c.args.sheet.now ≡ Ok y → Judges y.setting (half (goal.at.returns-then-not-inside_at c).Start) r = λ r j y e. subst (λ (z : Contents). Judges z.setting (half (goal.at.returns-then-not-inside_at c).Start) r) (same_contents c.args.sheet.now c.requires.known.contents y c.requires.known.is_read e) j in
     let told-start : Says c.inside_at.result (spaces.Inside (half (goal.at.returns-then-not-inside_at c).Start) c.requires.known.contents.setting.start) = subst (λ (m : List ℕ). Says c.inside_at.result (spaces.Inside (half (goal.at.returns-then-not-inside_at c).Start) m)) (start_is c.args.sheet.now c.args.counts c.requires.known c.behind_transitions-start.result c.behind_transitions-start.ensures.0) (rw (to_z-of_z c.ranges.c) at c.inside_at.ensures) in
     for-all _ (subst (Judges c.requires.known.contents.setting (half (goal.at.returns-then-not-inside_at c).Start)) (sym c.plain.ensures) (outside_so c.requires.known.contents.setting (half (goal.at.returns-then-not-inside_at c).Start) (fails c.inside_at.result (not-true c.inside_at.result c.if-not-inside_at.true-raw) (told-start))))
 
@@ -66,7 +66,7 @@ target_inside-requires c = ((limits c.args.sheet.now c.args.counts c.requires.kn
 
 pub returns-then-target_inside : goal.returns-then-target_inside
 returns-then-target_inside c =
-    let for-all : (r : Judged) → Judges c.requires.known.contents.setting (half (goal.at.returns-then-target_inside c).Start) r → (y : Contents) → reading c.args.sheet.now ≡ sound y → Judges y.setting (half (goal.at.returns-then-target_inside c).Start) r = λ r j y e. subst (λ (z : Contents). Judges z.setting (half (goal.at.returns-then-target_inside c).Start) r) (same_contents c.args.sheet.now c.requires.known.contents y c.requires.known.is_read e) j in
+    let for-all : (r : Judged) → Judges c.requires.known.contents.setting (half (goal.at.returns-then-target_inside c).Start) r → (y : Contents) → reading c.args.sheet.now ≡ Ok y → Judges y.setting (half (goal.at.returns-then-target_inside c).Start) r = λ r j y e. subst (λ (z : Contents). Judges z.setting (half (goal.at.returns-then-target_inside c).Start) r) (same_contents c.args.sheet.now c.requires.known.contents y c.requires.known.is_read e) j in
     let told-start : Says c.inside_at.result (spaces.Inside (half (goal.at.returns-then-target_inside c).Start) c.requires.known.contents.setting.start) = subst (λ (m : List ℕ). Says c.inside_at.result (spaces.Inside (half (goal.at.returns-then-target_inside c).Start) m)) (start_is c.args.sheet.now c.args.counts c.requires.known c.behind_transitions-start.result c.behind_transitions-start.ensures.0) (rw (to_z-of_z c.ranges.c) at c.inside_at.ensures) in
     let started : spaces.Inside (half (goal.at.returns-then-target_inside c).Start) c.requires.known.contents.setting.start = holds c.inside_at.result (not-false c.inside_at.result c.if-not-inside_at.false-raw) (told-start) in
     let told-target : Says c.target_inside.result (setting.TargetInside c.requires.known.contents.setting (half (goal.at.returns-then-target_inside c).Start)) = (rw (to_z-of_z c.ranges.c) at c.target_inside.ensures) c.requires.known.contents.setting (sym (target_is c.args.sheet.now c.args.counts c.requires.known c.target_from-target.result c.target_from-target.ensures.0)) in
@@ -75,7 +75,7 @@ returns-then-target_inside c =
 pub returns-then-t-eq0 : goal.returns-then-t-eq0
 returns-then-t-eq0 c =
     let told-first : FirstBroken c.requires.known.contents.setting.net (half (goal.at.returns-then-t-eq0 c).Start) c.first_broken-t.result = (rw (to_z-of_z c.ranges.c) at c.first_broken-t.ensures) c.requires.known.contents c.requires.known.is_read in
-    let for-all : (r : Judged) → Judges c.requires.known.contents.setting (half (goal.at.returns-then-t-eq0 c).Start) r → (y : Contents) → reading c.args.sheet.now ≡ sound y → Judges y.setting (half (goal.at.returns-then-t-eq0 c).Start) r = λ r j y e. subst (λ (z : Contents). Judges z.setting (half (goal.at.returns-then-t-eq0 c).Start) r) (same_contents c.args.sheet.now c.requires.known.contents y c.requires.known.is_read e) j in
+    let for-all : (r : Judged) → Judges c.requires.known.contents.setting (half (goal.at.returns-then-t-eq0 c).Start) r → (y : Contents) → reading c.args.sheet.now ≡ Ok y → Judges y.setting (half (goal.at.returns-then-t-eq0 c).Start) r = λ r j y e. subst (λ (z : Contents). Judges z.setting (half (goal.at.returns-then-t-eq0 c).Start) r) (same_contents c.args.sheet.now c.requires.known.contents y c.requires.known.is_read e) j in
     let told-start : Says c.inside_at.result (spaces.Inside (half (goal.at.returns-then-t-eq0 c).Start) c.requires.known.contents.setting.start) = subst (λ (m : List ℕ). Says c.inside_at.result (spaces.Inside (half (goal.at.returns-then-t-eq0 c).Start) m)) (start_is c.args.sheet.now c.args.counts c.requires.known c.behind_transitions-start.result c.behind_transitions-start.ensures.0) (rw (to_z-of_z c.ranges.c) at c.inside_at.ensures) in
     let started : spaces.Inside (half (goal.at.returns-then-t-eq0 c).Start) c.requires.known.contents.setting.start = holds c.inside_at.result (not-false c.inside_at.result c.if-not-inside_at.false-raw) (told-start) in
     let told-target : Says c.target_inside.result (setting.TargetInside c.requires.known.contents.setting (half (goal.at.returns-then-t-eq0 c).Start)) = (rw (to_z-of_z c.ranges.c) at c.target_inside.ensures) c.requires.known.contents.setting (sym (target_is c.args.sheet.now c.args.counts c.requires.known c.target_from-target.result c.target_from-target.ensures.0)) in
@@ -104,7 +104,7 @@ returns c =
     let told-first : FirstBroken c.requires.known.contents.setting.net (half (goal.at.returns c).Start) c.first_broken-t.result = (rw (to_z-of_z c.ranges.c) at c.first_broken-t.ensures) c.requires.known.contents c.requires.known.is_read in
     let record-so : transition_in c.args.sheet.now c.args.counts.places c.behind_transitions-at.result ≡ nets.transition c.requires.known.contents.setting.net c.first_broken-t.result = let t = there (goal.at.returns c).Start c.first_broken-t.result c.if-t-eq0.false (told-first) in
     transition_is c.args.sheet.now c.args.counts c.requires.known c.first_broken-t.result t.0 t.1 c.behind_transitions-at.result c.behind_transitions-at.ensures.0 in
-    let for-all : (r : Judged) → Judges c.requires.known.contents.setting (half (goal.at.returns c).Start) r → (y : Contents) → reading c.args.sheet.now ≡ sound y → Judges y.setting (half (goal.at.returns c).Start) r = λ r j y e. subst (λ (z : Contents). Judges z.setting (half (goal.at.returns c).Start) r) (same_contents c.args.sheet.now c.requires.known.contents y c.requires.known.is_read e) j in
+    let for-all : (r : Judged) → Judges c.requires.known.contents.setting (half (goal.at.returns c).Start) r → (y : Contents) → reading c.args.sheet.now ≡ Ok y → Judges y.setting (half (goal.at.returns c).Start) r = λ r j y e. subst (λ (z : Contents). Judges z.setting (half (goal.at.returns c).Start) r) (same_contents c.args.sheet.now c.requires.known.contents y c.requires.known.is_read e) j in
     let told-start : Says c.inside_at.result (spaces.Inside (half (goal.at.returns c).Start) c.requires.known.contents.setting.start) = subst (λ (m : List ℕ). Says c.inside_at.result (spaces.Inside (half (goal.at.returns c).Start) m)) (start_is c.args.sheet.now c.args.counts c.requires.known c.behind_transitions-start.result c.behind_transitions-start.ensures.0) (rw (to_z-of_z c.ranges.c) at c.inside_at.ensures) in
     let started : spaces.Inside (half (goal.at.returns c).Start) c.requires.known.contents.setting.start = holds c.inside_at.result (not-false c.inside_at.result c.if-not-inside_at.false-raw) (told-start) in
     let told-target : Says c.target_inside.result (setting.TargetInside c.requires.known.contents.setting (half (goal.at.returns c).Start)) = (rw (to_z-of_z c.ranges.c) at c.target_inside.ensures) c.requires.known.contents.setting (sym (target_is c.args.sheet.now c.args.counts c.requires.known c.target_from-target.result c.target_from-target.ensures.0)) in

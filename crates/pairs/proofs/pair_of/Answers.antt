@@ -1,4 +1,5 @@
 -- `pair_of` meets its contract: the refusals come in their order, and what the core says of the claim and the transition is the answer.
+use Rattle.std.specs.Prelude.{Ok}
 use mathlib.Core.Path.{◌≡◌, refl, ◌∙◌, sym, ap, subst}
 use mathlib.Core.Bool.{Bool, true, false}
 use mathlib.Core.List.{List, []}
@@ -12,8 +13,7 @@ use Rattle.format.specs.Contents.{Contents, half_space, claim}
 use Rattle.format.specs.Reading.{reading}
 use Rattle.reader.specs.Answers.{counts_of}
 use Rattle.reader.specs.declared.Counts.{Counts}
-use Rattle.refusals.specs.declared.Check.{Check}
-use Rattle.refusals.specs.declared.Check.TheVariants.{Fine}
+use Rattle.refusals.specs.Refusals.{Check}
 use Rattle.known.proofs.Taken.{sound_answer}
 use Rattle.pairs.specs.declared.Pair.{Pair}
 use Rattle.pairs.specs.declared.Answer.TheVariants.{Kept, Broken}
@@ -27,8 +27,8 @@ returns-then-not-crossing c =
     let m = length a.marks.now in
     let l = length a.queue.now in
     let x = sound_answer (reading a.sheet.now) (sym c.read-answer.ensures ∙ c.in-Sound.is) in
-    let ck : counted_check (counts_of x.0) a.i a.t m l ≡ Fine = ap (λ (k : Counts). counted_check k a.i a.t m l) x.2 ∙ sym c.checked-check.ensures ∙ c.in_default-check.is in
-    let after : (old : List ℕ) → area_after (Fine) old ≡ area_after (pair_check (reading a.sheet.now) a.i a.t m l) old =
+    let ck : counted_check (counts_of x.0) a.i a.t m l ≡ (Ok tt) = ap (λ (k : Counts). counted_check k a.i a.t m l) x.2 ∙ sym c.checked-check.ensures ∙ c.in_default-check.is in
+    let after : (old : List ℕ) → area_after ((Ok u)) old ≡ area_after (pair_check (reading a.sheet.now) a.i a.t m l) old =
     λ old. ap (λ (q : Check). area_after q old) (sym ck) ∙ ap (λ (y : Read Contents). area_after (pair_check y a.i a.t m l) old) (sym x.1) in
     let k = c.ask-crossing in
     let got = k.ensures.crosses x.0 x.1 in
@@ -42,8 +42,8 @@ returns c =
     let m = length a.marks.now in
     let l = length a.queue.now in
     let x = sound_answer (reading a.sheet.now) (sym c.read-answer.ensures ∙ c.in-Sound.is) in
-    let ck : counted_check (counts_of x.0) a.i a.t m l ≡ Fine = ap (λ (k : Counts). counted_check k a.i a.t m l) x.2 ∙ sym c.checked-check.ensures ∙ c.in_default-check.is in
-    let after : (old : List ℕ) → area_after (Fine) old ≡ area_after (pair_check (reading a.sheet.now) a.i a.t m l) old =
+    let ck : counted_check (counts_of x.0) a.i a.t m l ≡ (Ok tt) = ap (λ (k : Counts). counted_check k a.i a.t m l) x.2 ∙ sym c.checked-check.ensures ∙ c.in_default-check.is in
+    let after : (old : List ℕ) → area_after ((Ok u)) old ≡ area_after (pair_check (reading a.sheet.now) a.i a.t m l) old =
     λ old. ap (λ (q : Check). area_after q old) (sym ck) ∙ ap (λ (y : Read Contents). area_after (pair_check y a.i a.t m l) old) (sym x.1) in
     let k = c.ask-crossing in
     let got = k.ensures.crosses x.0 x.1 in

@@ -1,15 +1,16 @@
 -- `claim` meets its contract: its length stops it, or a coefficient does, or the constant does, or whether some coefficient is other than zero decides.
+use Rattle.refusals.specs.declared.Refusal.TheVariants as refused
+use Rattle.std.specs.Prelude.{Ok}
 use mathlib.Core.Path.{◌≡◌, ◌∙◌, sym, ap}
 use mathlib.Core.List.{List}
 use native.Mathlib.Omega.{arith}
 use Prim.Native.Nat.{ℕ, ◌+◌}
 use Rattle.signed.specs.Twos.{twos8}
 use Rattle.terms.specs.Limits.{coefficient_fits, constant_fits}
-use Rattle.refusals.specs.declared.Check.{Check}
-use Rattle.refusals.specs.declared.Check.TheVariants.{Fine}
+use Rattle.refusals.specs.Refusals.{Check}
 use Rattle.format.specs.Contents.{Claim, some_nonzero}
 use Rattle.format.specs.Reading.{claim_in, claim_size, signed_word, each_fits, whole_at, claim_at}
-use Rattle.format.specs.Read.{Read, sound, ◌>>◌, need}
+use Rattle.format.specs.Read.{Read, ◌>>◌, need}
 use Rattle.format.specs.Checked.{checked}
 use Rattle.format.proofs.Checks.{stop_then, go_then, then_sound, whole_fits}
 use Rattle.records.proofs.claim.Goals as goal
@@ -17,29 +18,29 @@ use Rattle.records.proofs.claim.Goals as goal
 -- the parts of a claim's record, and what is left behind its length and behind its coefficients
 module _ (s : List ℕ) (n at : ℕ) where
   abbrev each : Read (Unit {0})
-  each = each_fits (λ b. coefficient_fits (twos8 b)) 6 s (at + 2) n
+  each = each_fits (λ b. coefficient_fits (twos8 b)) refused.Coefficient s (at + 2) n
 
   abbrev fits : Read (Unit {0})
-  fits = need (constant_fits (signed_word s (at + 2 + n))) 7 (at + 2 + n)
+  fits = need (constant_fits (signed_word s (at + 2 + n))) (refused.Constant (at + 2 + n))
 
   abbrev some : Read (Unit {0})
-  some = need (some_nonzero (claim_in s n at).coefficients) 18 at
+  some = need (some_nonzero (claim_in s n at).coefficients) (refused.AllZero at)
 
   abbrev numbers : Read Claim
-  numbers = fits >> (some >> sound (claim_in s n at))
+  numbers = fits >> (some >> Ok (claim_in s n at))
 
-  module _ {length : Check} (is-length : length ≡ checked (whole_at s at (claim_size n))) (whole : length ≡ Fine) where
+  module _ {length : Check} (is-length : length ≡ checked (whole_at s at (claim_size n))) (whole : length ≡ (Ok tt)) where
     behind-length : claim_at s n at ≡ (each >> numbers)
     unfolding claim_at
     behind-length = go_then (whole_at s at (claim_size n)) is-length (each >> numbers) whole
 
-    module _ {row : Check} (is_row : row ≡ checked each) (fine : row ≡ Fine) where
+    module _ {row : Check} (is_row : row ≡ checked each) (fine : row ≡ (Ok tt)) where
       behind-coefficients : claim_at s n at ≡ numbers
       behind-coefficients = behind-length ∙ go_then each is_row numbers fine
 
-      behind-constant : {k q : Check} → k ≡ checked fits → k ≡ Fine → q ≡ checked some → q ≡ checked (claim_at s n at)
+      behind-constant : {k q : Check} → k ≡ checked fits → k ≡ (Ok tt) → q ≡ checked some → q ≡ checked (claim_at s n at)
       behind-constant is-constant in-range so =
-          so ∙ sym (then_sound some (claim_in s n at)) ∙ ap checked (sym (behind-coefficients ∙ go_then fits is-constant (some >> sound (claim_in s n at)) in-range))
+          so ∙ sym (then_sound some (claim_in s n at)) ∙ ap checked (sym (behind-coefficients ∙ go_then fits is-constant (some >> Ok (claim_in s n at)) in-range))
 
 pub returns-in_default : goal.returns-in_default
 unfolding claim_at
@@ -70,7 +71,7 @@ nonzero-some-requires c =
 pub returns-in_default-fits : goal.returns-in_default-fits
 returns-in_default-fits c =
     let a = c.args in
-    stop_then (fits a.s.now a.n a.at) c.constant-fits.ensures (some a.s.now a.n a.at >> sound (claim_in a.s.now a.n a.at)) c.in_default-fits.is ∙ ap checked (sym (behind-coefficients a.s.now a.n a.at c.whole-all.ensures c.in-Fine.is c.coefficients-each.ensures c.in-Fine-each.is))
+    stop_then (fits a.s.now a.n a.at) c.constant-fits.ensures (some a.s.now a.n a.at >> Ok (claim_in a.s.now a.n a.at)) c.in_default-fits.is ∙ ap checked (sym (behind-coefficients a.s.now a.n a.at c.whole-all.ensures c.in-Fine.is c.coefficients-each.ensures c.in-Fine-each.is))
 
 pub returns : goal.returns
 returns c =

@@ -1,4 +1,5 @@
 -- `start_of` meets its contract: the sheet's refusal is passed on, and a sound sheet's start stands behind its transitions.
+use Rattle.std.specs.Prelude.{Ok}
 use mathlib.Core.Path.{◌∙◌, sym, ap}
 use native.Mathlib.Omega.{arith}
 use mathlib.Core.List.{List}
@@ -6,7 +7,6 @@ use Prim.Native.Nat.{ℕ}
 use Rattle.format.specs.Reading.{reading}
 use Rattle.format.proofs.Places.{held}
 use Rattle.nets.specs.HalfSpaces.{sixteen}
-use Rattle.refusals.specs.declared.Check.TheVariants.{Fine}
 use Rattle.sheet.specs.Held.{start_of}
 use Rattle.sheet.specs.declared.Start.{Start}
 use Rattle.known.proofs.Taken.{sound_answer, most, start_fits, start_taken}
@@ -35,4 +35,4 @@ returns c =
     let k = c.in-Sound.counts in
     let x = sound_answer (reading a.sheet.now) (sym c.read-answer.ensures ∙ c.in-Sound.is) in
     let h = held a.sheet.now x.0 x.1 in
-    ap {B = Start} (λ (m : List ℕ). record { answer = Fine; tokens = m }) (c.tokens_from-tokens.ensures ∙ ap (sixteen 0) (start_taken a.sheet.now x.0 k h x.2 c.behind_transitions-at.result c.behind_transitions-at.ensures.0)) ∙ ap start_of (sym x.1)
+    ap {B = Start} (λ (m : List ℕ). record { answer = (Ok tt); tokens = m }) (c.tokens_from-tokens.ensures ∙ ap (sixteen 0) (start_taken a.sheet.now x.0 k h x.2 c.behind_transitions-at.result c.behind_transitions-at.ensures.0)) ∙ ap start_of (sym x.1)

@@ -1,4 +1,5 @@
 -- `target_of` meets its contract: the sheet's refusal is passed on, and a sound sheet's kind and target stand behind its start.
+use Rattle.std.specs.Prelude.{Ok}
 use mathlib.Core.Path.{◌≡◌, refl, ◌∙◌, sym, ap, ap₂}
 use native.Mathlib.Omega.{arith}
 use mathlib.Core.List.{List}
@@ -13,7 +14,6 @@ use Rattle.amounts.specs.declared.Kind.{Kind}
 use Rattle.amounts.specs.declared.Kind.TheVariants.{Exact, AtOrAbove}
 use Rattle.nets.specs.HalfSpaces.{sixteen}
 use Rattle.nets.specs.Verdicts as verdicts
-use Rattle.refusals.specs.declared.Check.TheVariants.{Fine}
 use Rattle.sheet.specs.Held.{kind_is, target_of}
 use Rattle.sheet.specs.declared.Target.{Target}
 use Rattle.known.proofs.Taken.{sound_answer, most, target_fits, target_taken}
@@ -57,6 +57,6 @@ returns c =
     let k = c.in-Sound.counts in
     let x = sound_answer (reading a.sheet.now) (sym c.read-answer.ensures ∙ c.in-Sound.is) in
     let h = held a.sheet.now x.0 x.1 in
-    ap₂ {C = Target} (λ (q : Kind) (m : List ℕ). record { answer = Fine; kind = q; tokens = m }) (c.of_byte-kind.ensures ∙ kinds-agree (byte a.sheet.now (c.target_from-at.result + 2))) c.tokens_from-tokens.ensures
-    ∙ ap {B = Target} (λ (g : verdicts.Target). record { answer = Fine; kind = kind_is g.kind; tokens = sixteen 0 g.tokens }) (target_taken a.sheet.now x.0 k h x.2 c.target_from-at.result c.target_from-at.ensures.0)
+    ap₂ {C = Target} (λ (q : Kind) (m : List ℕ). record { answer = (Ok tt); kind = q; tokens = m }) (c.of_byte-kind.ensures ∙ kinds-agree (byte a.sheet.now (c.target_from-at.result + 2))) c.tokens_from-tokens.ensures
+    ∙ ap {B = Target} (λ (g : verdicts.Target). record { answer = (Ok tt); kind = kind_is g.kind; tokens = sixteen 0 g.tokens }) (target_taken a.sheet.now x.0 k h x.2 c.target_from-at.result c.target_from-at.ensures.0)
     ∙ ap target_of (sym x.1)

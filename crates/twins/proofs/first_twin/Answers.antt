@@ -1,4 +1,5 @@
 -- `first_twin` meets its contract: the claims that were passed are no twins, since a twin is a multiple of the reduced form, and the first multiple is the lowest twin.
+use Rattle.std.specs.Prelude.{Ok}
 use mathlib.Core.Path.{◌≡◌, ap, ◌∙◌, subst}
 use mathlib.Core.Bool.{Bool, true, false}
 use native.Mathlib.Omega.{arith}
@@ -8,7 +9,6 @@ use mir.Val.{SFits}
 use mir.Facts.{to_z-of_z}
 use Rattle.nets.specs.HalfSpaces.{HalfSpace}
 use Rattle.nets.specs.Reduced.{Twins}
-use Rattle.format.specs.Read.{sound}
 use Rattle.format.specs.Contents.{Contents, half_space, claim}
 use Rattle.format.specs.Reading.{reading, claim_in}
 use Rattle.reduction.specs.Divisors.{space_of}
@@ -46,7 +46,7 @@ is_multiple-requires c =
 
 pub returns-then-is_multiple : goal.returns-then-is_multiple
 returns-then-is_multiple c =
-    let decides : (t : Bool) → c.is_multiple.result ≡ t → (x : Contents) → reading c.args.sheet.now ≡ sound x → Tells t (Twins (half_space (claim x c.args.i)) (half_space (claim x c.loop-j.j))) = λ t e x read. let a = c.args in
+    let decides : (t : Bool) → c.is_multiple.result ≡ t → (x : Contents) → reading c.args.sheet.now ≡ Ok x → Tells t (Twins (half_space (claim x c.args.i)) (half_space (claim x c.loop-j.j))) = λ t e x read. let a = c.args in
     let q = c.requires in
     let l = c.loop-j in
     let f = c.form_at-form in
@@ -60,7 +60,7 @@ returns-then-is_multiple c =
 
 pub loop-j-preserved : goal.loop-j-preserved
 loop-j-preserved c =
-    let decides : (t : Bool) → c.is_multiple.result ≡ t → (x : Contents) → reading c.args.sheet.now ≡ sound x → Tells t (Twins (half_space (claim x c.args.i)) (half_space (claim x c.loop-j.j))) = λ t e x read. let a = c.args in
+    let decides : (t : Bool) → c.is_multiple.result ≡ t → (x : Contents) → reading c.args.sheet.now ≡ Ok x → Tells t (Twins (half_space (claim x c.args.i)) (half_space (claim x c.loop-j.j))) = λ t e x read. let a = c.args in
     let q = c.requires in
     let l = c.loop-j in
     let f = c.form_at-form in
