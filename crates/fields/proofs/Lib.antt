@@ -1,2 +1,1 @@
 pub mod Each
-pub mod Zeros

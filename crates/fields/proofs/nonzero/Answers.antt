@@ -1,24 +1,15 @@
--- `nonzero` meets its contract: all coefficients before `at` are zero, so whether one is other than zero is whether one from `at` on is.
-use mathlib.Core.Path.{◌∙◌}
-use Prim.Native.Nat.{◌+◌}
-use native.Mathlib.Omega.{arith}
-use Rattle.fields.proofs.Zeros.{zeros_step, zeros_stop, zeros_done}
+use Rattle.std.proofs.Common.{sym, ap, ◌∙◌, Bool, arith}
+use Rattle.refusals.specs.declared.Refusal.TheVariants as refused
+use Rattle.format.specs.Read.{need}
+use Rattle.fields.proofs.Each.{nonzero_in}
 use Rattle.fields.proofs.nonzero.Goals as goal
 
-pub returns-then-s-at-ne0 : goal.returns-then-s-at-ne0
-returns-then-s-at-ne0 c =
-    let l = c.loop-at in
+pub returns-then-some_other_than_zero : goal.returns-then-some_other_than_zero
+returns-then-some_other_than_zero c =
     let a = c.args in
-    rw (l.invariant.3 ∙ zeros_stop a.s.now l.at (a.from + a.count) (omega arith) (omega (arith, c.shared_slice_known-in-loop-at-1.given l.at)) c.if-s-at-ne0.true)
+    ap (λ (some : Bool). need some (refused.AllZero a.first)) (sym c.if-some_other_than_zero.true ∙ nonzero_in a.s.now a.from a.count c.some_other_than_zero.result c.requires (λ i. omega (arith, c.type_inv.s i)) c.some_other_than_zero.ensures)
 
-pub loop-at-preserved : goal.loop-at-preserved
-loop-at-preserved c =
-    let l = c.loop-at in
+pub returns-else-some_other_than_zero : goal.returns-else-some_other_than_zero
+returns-else-some_other_than_zero c =
     let a = c.args in
-    (omega arith, omega arith, omega arith, l.invariant.3 ∙ zeros_step a.s.now l.at (a.from + a.count) (omega arith) c.if-s-at-ne0.false)
-
-pub returns : goal.returns
-returns c =
-    let l = c.loop-at in
-    let a = c.args in
-    rw (l.invariant.3 ∙ zeros_done a.s.now l.at (a.from + a.count) (omega arith)) c.refuse.ensures
+    ap (λ (some : Bool). need some (refused.AllZero a.first)) (sym c.if-some_other_than_zero.false ∙ nonzero_in a.s.now a.from a.count c.some_other_than_zero.result c.requires (λ i. omega (arith, c.type_inv.s i)) c.some_other_than_zero.ensures)
