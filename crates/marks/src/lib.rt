@@ -1,7 +1,7 @@
 // What every record opens with: its mark, and its length.
 #![tactic(auto)]
 
-ghost use Rattle.std.specs.Prelude.{◌≡◌, ◌≤◌, length, IfOk};
+ghost use Rattle.std.specs.Prelude.{◌≡◌, ◌+◌, ◌≤◌, length, IfOk};
 ghost use Rattle.format.specs.Reading.{marked_at, whole_at, opened_at};
 
 use refusals::Refusal;
@@ -53,7 +53,8 @@ impl Cursor<'_> {
     // A record of that size.
     #[tactic(auto, unfolding(format::specs::Reading::whole_at))]
     pub fn whole(self, size: usize) -> Result<(), Refusal>
-        ensures { result ≡ whole_at self.entry.sheet.now self.entry.at size }
+        ensures fits { IfOk result (λ _. self.entry.at + size ≤ length self.entry.sheet.now) }
+        ensures value { result ≡ whole_at self.entry.sheet.now self.entry.at size }
     {
         if self.sheet.len() - self.at < size {
             return Err(Refusal::Cut(self.at));
@@ -64,7 +65,8 @@ impl Cursor<'_> {
     // A record's mark, and then its length.
     #[tactic(auto, unfolding(format::specs::Reading::opened_at))]
     pub fn opened(self, mark: Mark, size: usize) -> Result<(), Refusal>
-        ensures { result ≡ opened_at self.entry.sheet.now self.entry.at mark.0 mark.1 size }
+        ensures fits { IfOk result (λ _. self.entry.at + size ≤ length self.entry.sheet.now) }
+        ensures value { result ≡ opened_at self.entry.sheet.now self.entry.at mark.0 mark.1 size }
     {
         self.marked(mark)?;
         self.whole(size)

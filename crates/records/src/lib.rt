@@ -7,62 +7,50 @@ ghost use Rattle.format.specs.Checked.{checked};
 
 use amounts::Kind;
 use fields::{coefficients, constant, nonzero, weights};
-use marks::{opened, whole};
-use refusals::{Check, refuse};
+use marks::{Cursor, Mark};
+use refusals::Refusal;
 
 // TR: the weights taken and put.
-pub fn transition(s: &[u8], n: usize, at: usize) -> Check
-    requires { (n ≤ 16) × (at ≤ length s.now) }
-    ensures { result ≡ checked (transition_at s.now n at) }
+#[tactic(auto, unfolding(format::specs::Reading::transition_at))]
+pub fn transition(cursor: Cursor<'_>, places: usize) -> Result<(), Refusal>
+    requires { places ≤ 16 }
+    ensures { result ≡ checked (transition_at cursor.entry.sheet.now places cursor.entry.at) }
 {
-    let open = opened(s, at, b'T', b'R', 2 + 2 * n);
-    let Check::Fine = open else {
-        return open;
-    };
-    weights(s, at + 2, 2 * n)
+    cursor.opened(Mark::TR, 2 + 2 * places)?;
+    weights(cursor.sheet, cursor.at + 2, 2 * places)
 }
 
 // MK: the start.
-pub fn start(s: &[u8], n: usize, at: usize) -> Check
-    requires { (n ≤ 16) × (at ≤ length s.now) }
-    ensures { result ≡ checked (start_at s.now n at) }
+#[tactic(auto, unfolding(format::specs::Reading::start_at))]
+pub fn start(cursor: Cursor<'_>, places: usize) -> Result<(), Refusal>
+    requires { places ≤ 16 }
+    ensures { result ≡ checked (start_at cursor.entry.sheet.now places cursor.entry.at) }
 {
-    opened(s, at, b'M', b'K', 2 + 2 * n)
+    cursor.opened(Mark::MK, 2 + 2 * places)
 }
 
 // TG: the kind and the target.
-pub fn target(s: &[u8], n: usize, at: usize) -> Check
-    requires { (n ≤ 16) × (at ≤ length s.now) }
-    ensures { result ≡ checked (target_at s.now n at) }
+#[tactic(auto, unfolding(format::specs::Reading::target_at))]
+pub fn target(cursor: Cursor<'_>, places: usize) -> Result<(), Refusal>
+    requires { places ≤ 16 }
+    ensures { result ≡ checked (target_at cursor.entry.sheet.now places cursor.entry.at) }
 {
-    let open = opened(s, at, b'T', b'G', 3 + 2 * n);
-    let Check::Fine = open else {
-        return open;
-    };
-    if Kind::MOST < s[at + 2] {
-        return refuse(5, at + 2);
+    cursor.opened(Mark::TG, 3 + 2 * places)?;
+    if Kind::MOST < cursor.sheet[cursor.at + 2] {
+        return Err(Refusal::Kind(cursor.at + 2));
     }
-    Check::Fine
+    Ok(())
 }
 
 // HS, behind its mark: the coefficients, then the constant, and last that not all coefficients are zero. How many claims came before plays no part here.
-pub fn claim(s: &[u8], n: usize, at: usize) -> Check
-    requires { (n ≤ 16) × (at ≤ length s.now) }
-    ensures { result ≡ checked (claim_at s.now n at) }
+#[tactic(auto, unfolding(format::specs::Reading::claim_at))]
+pub fn claim(cursor: Cursor<'_>, places: usize) -> Result<(), Refusal>
+    requires { places ≤ 16 }
+    ensures { result ≡ checked (claim_at cursor.entry.sheet.now places cursor.entry.at) }
 {
-    let all = whole(s, at, 4 + n);
-    let Check::Fine = all else {
-        return all;
-    };
-    let from = at + 2;
-    let each = coefficients(s, from, n);
-    let Check::Fine = each else {
-        return each;
-    };
-    let fits = constant(s, from + n);
-    let some = nonzero(s, from, n, at);
-    let Check::Fine = fits else {
-        return fits;
-    };
-    some
+    cursor.whole(4 + places)?;
+    let from = cursor.at + 2;
+    coefficients(cursor.sheet, from, places)?;
+    constant(cursor.sheet, from + places)?;
+    nonzero(cursor.sheet, from, places, cursor.at)
 }
