@@ -9,7 +9,7 @@ use borrow.Author.Tests.{eqb-true}
 use Rattle.format.specs.Encoding.{signed_byte}
 use Rattle.format.proofs.Nonzero.{size_zero}
 use Rattle.format.proofs.Numbers.{byte_back}
-use Rattle.format.proofs.Standing.{stands-drop, stands-bytes, length-bytes}
+use Rattle.format.proofs.Standing.{part_bytes}
 use Rattle.signed.specs.Twos.{twos8}
 use Rattle.format.specs.Contents.{some_nonzero}
 use Rattle.format.specs.Reading.{byte, bytes, each_fits}
@@ -39,11 +39,6 @@ each_first fits refusal s at (suc n) = by_test (fits (byte s at)) refl (each_fir
         → each_fits fits refusal s at (suc n) ≡ at_first refusal at (position (λ b. not (fits b)) (bytes s at (suc n)))
     by_test true e rest = rw e (rest ∙ shifted refusal at _ (length (bytes s (at + 1) n)) _ _ refl refl)
     by_test false e rest = rw e (here refusal at (length (bytes s (at + 1) n)) _ refl)
-
--- the bytes that stand there, as a part of the sheet
-part_bytes : (s : List ℕ) (at n size : ℕ) → size ≡ n → at + n ≤ length s → take size (drop at s) ≡ bytes s at n
-part_bytes s at n size e h =
-    ap (take size) (stands-drop s at (bytes s at n) (stands-bytes s at n h)) ∙ take_at (bytes s at n) _ size (length-bytes s at n ∙ sym e)
 
 pub first_in : (fits : ℕ → Bool) (refusal : ℕ → Refusal) (s : List ℕ) (at n : ℕ) (fault : Option ℕ) → at + n ≤ length s → fault ≡ position (λ b. not (fits b)) (take (at + n - at) (drop at s)) → at_first refusal at fault ≡ each_fits fits refusal s at n
 first_in fits refusal s at n fault h e =

@@ -1,13 +1,13 @@
 -- A list stands in another at a place exactly if its entries are there one after the other: by induction over it.
 -- What stands at 0 and is as long is the whole.
-use mathlib.Core.Path.{◌≡◌, refl, ap, ◌∙◌, subst}
+use mathlib.Core.Path.{◌≡◌, refl, sym, ap, ◌∙◌, subst}
 use mathlib.Core.List.{List, [], ◌∷◌, ◌++◌, append-nil}
 use Prim.Native.Nat.{ℕ, zero, suc, ◌+◌, ◌≤◌, ◌<◌}
 use native.Mathlib.Nat.{add-zero}
 use native.Mathlib.Numerals.{add-one}
 use native.Mathlib.Omega.{arith}
-use lib.ListN.{length, get_or, drop, length-append, drop_of_length-le}
-use lib.Seq.{drop-cons, append_snoc, get_or-append_seam}
+use lib.ListN.{length, get_or, take, drop, length-append, drop_of_length-le}
+use lib.Seq.{take_at, drop-cons, append_snoc, get_or-append_seam}
 use Rattle.format.specs.Reading.{byte, bytes}
 
 abbrev pub Stands : List ℕ → ℕ → List ℕ → Type 0
@@ -87,3 +87,8 @@ unfolding bytes
 byte_in s at zero i l = absurd (omega arith)
 byte_in s at (suc n) zero l = ap (byte s) (omega arith)
 byte_in s at (suc n) (suc i) l = byte_in s (at + 1) n i (omega arith) ∙ ap (byte s) (omega arith)
+
+-- the bytes that stand there, as a part of the sheet
+pub part_bytes : (s : List ℕ) (at n size : ℕ) → size ≡ n → at + n ≤ length s → take size (drop at s) ≡ bytes s at n
+part_bytes s at n size e h =
+    ap (take size) (stands-drop s at (bytes s at n) (stands-bytes s at n h)) ∙ take_at (bytes s at n) _ size (length-bytes s at n ∙ sym e)

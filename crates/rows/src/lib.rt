@@ -13,10 +13,8 @@ pub fn weights_from(s: &[u8], at: usize, n: usize) -> [u8; Place::MOST]
     requires { (n ≤ 16) × (at + n ≤ length s.now) }
     ensures { result ≡ sixteen 0 (bytes s.now at n) }
 {
-    let mut row = [0u8; Place::MOST];
-    for p in 0..n {
-        row[p] = s[at + p];
-    }
+    let mut row = [0; Place::MOST];
+    row[..n].copy_from_slice(&s[at..at + n]);
     row
 }
 
@@ -25,35 +23,47 @@ pub fn two_bytes(s: &[u8], at: usize) -> u16
     requires { at + 2 ≤ length s.now }
     ensures { result ≡ word s.now at }
 {
-    (s[at] as u16) + 256 * (s[at + 1] as u16)
+    u16::from_le_bytes([s[at], s[at + 1]])
+}
+
+fn fill_tokens(row: &mut [u16], s: &[u8], at: usize)
+    requires { at + 2 * length row.old ≤ length s.now }
+    ensures { row.new ≡ words s.now at (length row.old) }
+{
+    for (p, tokens) in row.iter_mut().enumerate() {
+        *tokens = two_bytes(s, at + 2 * p);
+    }
 }
 
 pub fn tokens_from(s: &[u8], at: usize, n: usize) -> [u16; Place::MOST]
     requires { (n ≤ 16) × (at + 2 * n ≤ length s.now) }
     ensures { result ≡ sixteen 0 (words s.now at n) }
 {
-    let mut row = [0u16; Place::MOST];
-    for p in 0..n {
-        row[p] = two_bytes(s, at + 2 * p);
-    }
+    let mut row = [0; Place::MOST];
+    fill_tokens(&mut row[..n], s, at);
     row
+}
+
+fn fill_coefficients(row: &mut [i8], bytes: &[u8])
+    requires { length bytes.now ≡ length row.old }
+    ensures { row.new ≡ map twos8 bytes.now }
+{
+    for (p, k) in row.iter_mut().enumerate() {
+        *k = Coefficient::from(bytes[p]).0;
+    }
 }
 
 fn coefficients_from(s: &[u8], at: usize, n: usize) -> [i8; Place::MOST]
     requires { (n ≤ 16) × (at + n ≤ length s.now) }
     ensures { result ≡ sixteen (pos 0) (map twos8 (bytes s.now at n)) }
 {
-    let mut row = [0i8; Place::MOST];
-    for p in 0..n {
-        let k = Coefficient::of_byte(s[at + p]);
-        let v = k.0;
-        row[p] = v;
-    }
+    let mut row = [0; Place::MOST];
+    fill_coefficients(&mut row[..n], &s[at..at + n]);
     row
 }
 
 // A claim's numbers: sixteen coefficients, zero beyond place n, and the constant.
-#[derive(Clone, Copy)]
+#[derive(Clone, Copy, Debug, PartialEq, Eq)]
 pub struct Numbers {
     pub coefficients: [i8; Place::MOST],
     pub constant: i16,
@@ -65,10 +75,8 @@ pub fn numbers_at(s: &[u8], at: usize, n: usize) -> Numbers
     ensures coefficients_value { result.coefficients ≡ sixteen (pos 0) (claim_in s.now n at).coefficients }
     ensures constant_value { result.constant ≡ (claim_in s.now n at).constant }
 {
-    let coefficients = coefficients_from(s, at + 2, n);
-    let c = Constant::of_bytes(s[at + 2 + n], s[at + 3 + n]);
     Numbers {
-        coefficients,
-        constant: c.0,
+        coefficients: coefficients_from(s, at + 2, n),
+        constant: Constant::from([s[at + 2 + n], s[at + 3 + n]]).0,
     }
 }
