@@ -1,21 +1,23 @@
 -- How large the values of weights are: 100 times 9 for each place, so at most 14,400 for sixteen.
-use mathlib.Core.Path.{◌≡◌, refl}
+use mathlib.Core.Path.{◌≡◌, refl, sym, ap, ◌∙◌, subst}
+use mir.Syntax.{w32}
+use mir.Val.{to_z, of_z, SFits}
+use mir.Facts.{to_z-of_z}
 use mathlib.Core.Bool.{Bool, true, false, cond}
-use mathlib.Core.List.{List, [], ◌∷◌}
+use mathlib.Core.List.{List, [], ◌∷◌, map}
 use Prim.Native.Nat.{ℕ, ◌*◌, ◌≤◌}
 use native.Mathlib.Omega.{arith}
 use lib.ListN.{length}
 use lib.IntN.{ℤ, pos, negsuc, neg_ℤ}
 use lib.Signed.{◌≤ℤ◌, le_z, lt_z}
 use borrow.Author.Tests.{leb-true}
+use Rattle.std.proofs.lemmas.List.{map-id}
 use Rattle.signed.specs.Linear.{linear, mul-le, mul_ge}
 use Rattle.signed.specs.Parts.{lt-false, le-true}
 use Rattle.terms.specs.Limits.{coefficient_fits, constant_fits}
 use Rattle.nets.specs.HalfSpaces.{value}
 use Rattle.format.specs.Formed.{All, IsCoefficient, IsWeight}
-use Rattle.format.specs.Reading.{transition_in}
 use Rattle.values.specs.Range.{Constants, Values}
-use Rattle.values.specs.Ready.{Ready}
 
 -- a number that is not below one end and not above the other
 between : (t u : Bool) → cond t false u ≡ true → (t ≡ false) × (u ≡ true)
@@ -46,9 +48,7 @@ value_range ks ws k w l =
     let b = simp linear at (value_bound ks ws k w) in
     record { low = simp linear (omega arith); high = simp linear (omega arith) }
 
-module _ (ks : List ℤ) (c : ℤ) (s : List ℕ) (n at : ℕ) (r : Ready ks c s n at) where
-  pub taken_range : Values (value ks (transition_in s n at).taken)
-  taken_range = value_range ks (transition_in s n at).taken r.coefficients.each r.weights.taken.each (omega (arith, r.weights.taken.places, r.places))
-
-  pub put_range : Values (value ks (transition_in s n at).put)
-  put_range = value_range ks (transition_in s n at).put r.coefficients.each r.weights.put.each (omega (arith, r.weights.put.places, r.places))
+-- the same of a value that was computed
+pub computed_range : (v : ℤ) (ks : List ℤ) (ws : List ℕ) → SFits w32 v → v ≡ value ks (map (λ (w : ℕ). w) ws) → All IsCoefficient ks → All IsWeight ws → length ws ≤ 16 → Values (to_z w32 (of_z w32 v))
+computed_range v ks ws fits is k w few =
+    subst Values (sym (is ∙ ap (value ks) (map-id ws)) ∙ sym (to_z-of_z fits)) (value_range ks ws k w few)

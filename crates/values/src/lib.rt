@@ -1,38 +1,154 @@
-// The value of a marking under coefficients, in signed integers: document 01, "Half spaces and verdicts". No sum can wrap.
+// Half spaces and transitions of numbers that a sheet can hold, and the value of a marking under coefficients, in signed integers: document 01,
+// "Half spaces and verdicts". No sum can wrap.
 #![tactic(auto)]
 
-ghost use Rattle.std.specs.Prelude.{◌≡◌, ◌+◌, ◌≤◌, pos, negsuc, ◌*ℤ◌, ◌≤ℤ◌, length, take};
-ghost use Rattle.nets.specs.HalfSpaces.{value};
-ghost use Rattle.format.specs.Reading.{bytes};
+mod sums; // sums.rt: the value of amounts under coefficients
 
-use terms::{Place, wide};
+use std::marker::Model;
+pub use sums::Amount;
+use sums::value_of;
+use terms::Place;
 
-// A coefficient times the tokens of its place.
-fn term(k: i8, tokens: u16) -> i32
-    ensures { (result ≡ k *ℤ pos tokens) × (negsuc 8388479 ≤ℤ result) × (result ≤ℤ pos 8388480) }
-{
-    (k as i32) * (tokens as i32)
+// A half space over the places of a net.
+#[derive(Drop)]
+pub struct HalfSpace {
+    row: [i8; Place::MOST],
+    places: usize,
+    constant: i16,
 }
 
-// The value of sixteen numbers of tokens.
-pub fn value_of(k: [i8; Place::MOST], tokens: [u16; Place::MOST]) -> i32
-    ensures { result ≡ value k tokens }
-{
-    let mut sum: i32 = 0;
-    for p in 0..Place::MOST {
-        sum += term(k[p], tokens[p]);
-    }
-    sum
+impl Model for HalfSpace {
+    ghost use Rattle.nets.specs.HalfSpaces.{HalfSpace as Meant};
+    ghost use Rattle.values.specs.Held.{space_in, IsSpace};
+
+    ghost Value = { Meant };
+
+    ghost view = { λ h. space_in h.row h.places h.constant };
+
+    ghost invariant = { λ h. IsSpace h.row h.places h.constant };
 }
 
-// The value of n weights that stand in a sheet, from a byte on.
-pub fn value_at(k: [i8; Place::MOST], s: &[u8], at: usize, n: usize) -> i32
-    requires { (n ≤ 16) × (at + n ≤ length s.now) }
-    ensures { result ≡ value (take n k) (bytes s.now at n) }
-{
-    let mut sum: i32 = 0;
-    for p in 0..n {
-        sum += term(k[p], wide(s[at + p]));
+impl HalfSpace {
+    ghost use Rattle.std.specs.Prelude.{◌≡◌, ◌≤◌, length, map, pos};
+    ghost use Rattle.nets.specs.HalfSpaces.{value, sixteen};
+    ghost use Rattle.values.specs.Held.{space_in, IsSpace};
+    ghost use Rattle.format.specs.Formed.{All, IsCoefficient};
+    ghost use Rattle.values.specs.Range.{Constants, Values};
+
+    // The first of sixteen coefficients count; those beyond are zero.
+    pub fn new(row: [i8; Place::MOST], places: usize, constant: i16) -> HalfSpace
+        requires { IsSpace row places constant }
+        ensures { result ≡ space_in row places constant }
+    {
+        HalfSpace {
+            row,
+            places,
+            constant,
+        }
     }
-    sum
+
+    pub fn places(&self) -> usize
+        ensures value { result ≡ length self.now.coefficients }
+        ensures most { result ≤ 16 }
+    {
+        self.places
+    }
+
+    // One for each place.
+    pub fn coefficients(&self) -> &[i8]
+        ensures value { result.now ≡ self.now.coefficients }
+        ensures most { length result.now ≤ 16 }
+        ensures fit { All IsCoefficient result.now }
+    {
+        &self.row[..self.places]
+    }
+
+    pub fn constant(&self) -> i16
+        ensures value { result ≡ self.now.constant }
+        ensures range { Constants result }
+    {
+        self.constant
+    }
+
+    // Sixteen coefficients, zero beyond the places.
+    pub fn sixteen(&self) -> [i8; Place::MOST]
+        ensures { result ≡ sixteen (pos 0) self.now.coefficients }
+    {
+        self.row
+    }
+
+    // The sum of each coefficient times the amount of its place.
+    pub fn value<A: Amount>(&self, amounts: &[A]) -> i32
+        requires { length amounts.now ≡ length self.now.coefficients }
+        ensures { result ≡ value self.now.coefficients (map A.number amounts.now) }
+    {
+        value_of(self.coefficients(), amounts)
+    }
+
+    // The value of the weights that a transition takes.
+    pub fn value_taken(&self, arcs: &Arcs<'_>) -> i32
+        requires { length arcs.now.taken ≡ length self.now.coefficients }
+        ensures value { result ≡ value self.now.coefficients arcs.now.taken }
+        ensures range { Values result }
+    {
+        let coefficients = self.coefficients();
+        value_of(coefficients, arcs.taken())
+    }
+
+    // The value of the weights that a transition puts.
+    pub fn value_put(&self, arcs: &Arcs<'_>) -> i32
+        requires { length arcs.now.taken ≡ length self.now.coefficients }
+        ensures value { result ≡ value self.now.coefficients arcs.now.put }
+        ensures range { Values result }
+    {
+        let coefficients = self.coefficients();
+        value_of(coefficients, arcs.put())
+    }
+}
+
+// The weights of a transition, one taken and one put for each place. They stay where they stand in the bytes that were lent.
+#[derive(Drop)]
+pub struct Arcs<'a> {
+    taken: &'a [u8],
+    put: &'a [u8],
+}
+
+impl<'a> Model for Arcs<'a> {
+    ghost use Rattle.nets.specs.Nets.{Transition};
+    ghost use Rattle.values.specs.Held.{arcs_in, AreArcs};
+
+    ghost Value = { Transition };
+
+    ghost view = { λ a. arcs_in a.taken.now a.put.now };
+
+    ghost invariant = { λ a. AreArcs a.taken.now a.put.now };
+}
+
+impl<'a> Arcs<'a> {
+    ghost use Rattle.std.specs.Prelude.{◌≡◌, ◌≤◌, length};
+    ghost use Rattle.format.specs.Formed.{All, IsWeight};
+    ghost use Rattle.values.specs.Held.{arcs_in, AreArcs};
+
+    pub fn new(taken: &'a [u8], put: &'a [u8]) -> Arcs<'a>
+        requires { AreArcs taken.now put.now }
+        ensures { result ≡ arcs_in taken.now put.now }
+    {
+        Arcs { taken, put }
+    }
+
+    pub fn taken(&self) -> &'a [u8]
+        ensures value { result.now ≡ self.now.taken }
+        ensures most { length result.now ≤ 16 }
+        ensures fit { All IsWeight result.now }
+    {
+        self.taken
+    }
+
+    pub fn put(&self) -> &'a [u8]
+        ensures value { result.now ≡ self.now.put }
+        ensures places { length result.now ≡ length self.now.taken }
+        ensures fit { All IsWeight result.now }
+    {
+        self.put
+    }
 }
