@@ -1,7 +1,7 @@
 // NP, the record that opens a sheet: how many places and transitions there are.
 #![tactic(auto)]
 
-ghost use Rattle.std.specs.Prelude.{◌≡◌};
+ghost use Rattle.std.specs.Prelude.{◌≡◌, ◌≤◌, length, IfOk};
 ghost use Rattle.format.specs.Read.{map_ok};
 ghost use Rattle.format.specs.Reading.{size_of, head_of};
 
@@ -13,7 +13,8 @@ use terms::{Place, Transition, among};
 // The numbers of places and transitions, each within its limit.
 #[tactic(auto, unfolding(format::specs::Reading::head_of))]
 pub fn head(sheet: &[u8]) -> Result<Extent, Refusal>
-    ensures { map_ok (λ e. size_of e.places e.transitions) result ≡ head_of sheet.now }
+    ensures whole { IfOk result (λ _. 4 ≤ length sheet.now) }
+    ensures value { map_ok (λ e. size_of e.places e.transitions) result ≡ head_of sheet.now }
 {
     Cursor { sheet, at: 0 }.opened(Mark::NP, 4)?;
     let places = usize::from(sheet[2]);

@@ -1,3 +1,2 @@
 pub mod Turns
-pub mod Sizes
-pub mod Sheet
+pub mod Whole

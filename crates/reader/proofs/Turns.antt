@@ -1,29 +1,28 @@
 -- One turn of each loop over records: what is left to read at a byte is one record, and what is left behind it.
 use Rattle.std.specs.Prelude.{Err, Ok}
-use mathlib.Core.Path.{◌≡◌, refl, ap}
+use mathlib.Core.Path.{◌≡◌, refl, sym, ap, ◌∙◌}
 use mathlib.Core.List.{List, ◌∷◌}
-use Prim.Native.Nat.{ℕ, zero, suc, ◌+◌, ◌-◌, ◌≤◌, ◌<◌}
+use Prim.Native.Nat.{ℕ, zero, suc, ◌+◌, ◌-◌, ◌*◌, ◌≤◌, ◌<◌}
 use native.Mathlib.Nat.{add-zero}
 use native.Mathlib.Omega.{arith}
 use lib.ListN.{length}
 use borrow.Author.Tests.{le-leb, lt-leb}
 use Rattle.refusals.specs.declared.Refusal.{Refusal}
+use Rattle.refusals.specs.Refusals.{Check}
 use Rattle.nets.specs.Nets.{Transition}
-use Rattle.format.specs.Read.{Read, ◌>>=◌}
+use Rattle.format.specs.Read.{Read, ◌>>=◌, map_ok}
 use Rattle.format.specs.Contents.{Claim}
 use Rattle.format.specs.Reading.{Size, transition_at, transitions_at, transition_size, claim_due, claims_at, claim_size}
 use Rattle.format.specs.Checked.{checked}
-use Rattle.reader.specs.Answers.{counted_of}
-use Rattle.refusals.specs.Refusals.{Check}
-use Rattle.reader.specs.Answers.{Reading}
-use Rattle.format.proofs.Checks.{stop_bind, map_sound}
+use Rattle.format.proofs.Checks.{stop_bind, map_sound, fine}
 
 module _ (s : List ℕ) (n at k t : ℕ) where
-  pub transitions_step : (x : Transition) → k < t → transition_at s n at ≡ Ok x → checked (transitions_at s n at (t - k)) ≡ checked (transitions_at s n (at + transition_size n) (t - (k + 1)))
+  pub transitions_step : (next : ℕ) → next ≡ at + transition_size n → k < t → checked (transition_at s n at) ≡ Ok tt → checked (transitions_at s n at (t - k)) ≡ checked (transitions_at s n next (t - (k + 1)))
   unfolding transitions_at
-  transitions_step x l e =
+  transitions_step next is l e =
       let h : t - k ≡ suc (t - (k + 1)) = omega arith in
-      rw (h, e) (map_sound (transitions_at s n (at + transition_size n) (t - (k + 1))) (λ ts. x ∷ ts))
+      let x = fine (transition_at s n at) e in
+      rw (h, x.1, is) (map_sound (transitions_at s n (at + transition_size n) (t - (k + 1))) (λ ts. x.0 ∷ ts))
 
   pub transitions_stop : {a : Check} {r : Refusal} → k < t → a ≡ checked (transition_at s n at) → a ≡ Err r → a ≡ checked (transitions_at s n at (t - k))
   unfolding transitions_at
@@ -31,36 +30,40 @@ module _ (s : List ℕ) (n at k t : ℕ) where
       let h : t - k ≡ suc (t - (k + 1)) = omega arith in
       rw h (stop_bind (transition_at s n at) is (λ x. transitions_at s n (at + transition_size n) (t - (k + 1)) >>= λ ts. Ok (x ∷ ts)) e)
 
-  pub transitions_done : t ≤ k → checked (transitions_at s n at (t - k)) ≡ (Ok tt)
+  pub transitions_done : t ≤ k → checked (transitions_at s n at (t - k)) ≡ Ok tt
   unfolding transitions_at
   transitions_done l =
       let h : t - k ≡ 0 = omega arith in
       rw h
 
--- the counts, where `before` claims came before those that are read
-abbrev pub counted_from : ℕ → Size → Read (List Claim) → Reading
-counted_from before z (Ok is) = Ok (record { places = z.n; transitions = z.T; claims = before + length is })
-counted_from before z (Err r) = Err r
+-- how many claims there are, where so many came before those that are read
+abbrev pub counted_from : ℕ → Read (List Claim) → Read ℕ
+counted_from before x = map_ok (λ is. before + length is) x
 
-pub from_none : (z : Size) (x : Read (List Claim)) → counted_of z x ≡ counted_from 0 z x
-from_none z (Ok is) = ap (λ (k : ℕ). Ok (record { places = z.n; transitions = z.T; claims = k })) (omega arith)
-from_none z (Err r) = refl
+from_none : (x : Read (List Claim)) → map_ok length x ≡ counted_from 0 x
+from_none (Ok is) = ap (λ (k : ℕ). Ok k) (omega arith)
+from_none (Err r) = refl
 
-one_more : (before : ℕ) (z : Size) (i : Claim) (x : Read (List Claim)) → counted_from before z (x >>= λ is. Ok (i ∷ is)) ≡ counted_from (before + 1) z x
-one_more before z i (Ok is) = ap (λ (k : ℕ). Ok (record { places = z.n; transitions = z.T; claims = k })) (omega arith)
-one_more before z i (Err r) = refl
+one_more : (before : ℕ) (i : Claim) (x : Read (List Claim)) → counted_from before (x >>= λ is. Ok (i ∷ is)) ≡ counted_from (before + 1) x
+one_more before i (Ok is) = ap (λ (k : ℕ). Ok k) (omega arith)
+one_more before i (Err r) = refl
 
-module _ (s : List ℕ) (z : Size) (at before : ℕ) where
-  pub claims_step : (more : ℕ) (i : Claim) → at < length s → claim_due s z.n at (suc more) ≡ Ok i → counted_from before z (claims_at s z.n at (suc more)) ≡ counted_from (before + 1) z (claims_at s z.n (at + claim_size z.n) more)
+module _ (s : List ℕ) (n at before : ℕ) where
+  pub claims_begin : at < length s → (x : Read (List Claim)) → x ≡ claims_at s n at 32 → map_ok length x ≡ counted_from 0 (claims_at s n at 32)
+  claims_begin l x e = ap (map_ok length) e ∙ from_none (claims_at s n at 32)
+
+  pub claims_step : (more : ℕ) → at < length s → checked (claim_due s n at (suc more)) ≡ Ok tt → counted_from before (claims_at s n at (suc more)) ≡ counted_from (before + 1) (claims_at s n (at + claim_size n) more)
   unfolding claims_at
-  claims_step more i l e = rw (lt-leb (length s) at l, e) (one_more before z i (claims_at s z.n (at + claim_size z.n) more))
+  claims_step more l e =
+      let x = fine (claim_due s n at (suc more)) e in
+      rw (lt-leb (length s) at l, x.1) (one_more before x.0 (claims_at s n (at + claim_size n) more))
 
-  pub claims_stop : (more : ℕ) {r : Refusal} → at < length s → claim_due s z.n at more ≡ Err r → counted_from before z (claims_at s z.n at more) ≡ Err r
+  pub claims_stop : (more : ℕ) {r : Refusal} → at < length s → claim_due s n at more ≡ Err r → counted_from before (claims_at s n at more) ≡ Err r
   unfolding claims_at
   claims_stop zero l e = rw (lt-leb (length s) at l, e)
   claims_stop (suc more) l e = rw (lt-leb (length s) at l, e)
 
-  pub claims_done : (more : ℕ) → length s ≤ at → counted_from before z (claims_at s z.n at more) ≡ Ok (record { places = z.n; transitions = z.T; claims = before })
+  pub claims_done : (more : ℕ) → length s ≤ at → counted_from before (claims_at s n at more) ≡ Ok before
   unfolding claims_at
   claims_done zero l = rw (le-leb (length s) at l, add-zero)
   claims_done (suc more) l = rw (le-leb (length s) at l, add-zero)

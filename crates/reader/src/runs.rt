@@ -1,71 +1,70 @@
-// Records of one kind, one after the other.
-ghost use Rattle.std.specs.Prelude.{◌≡◌, ◌≤◌, length};
-ghost use Rattle.format.specs.Reading.{size_of, transitions_at, transitions_from, claim_due, claims_of, claims_from};
+// The records of a sheet, from its head on.
+ghost use Rattle.std.specs.Prelude.{◌≡◌, ◌+◌, ◌<◌, ◌≤◌, length, IfOk};
+ghost use Rattle.format.specs.Reading.{size_of, transitions_at, transitions_from, start_from, setting_of, claim_due, claims_of, claims_from};
+ghost use Rattle.format.specs.Read.{map_ok};
 ghost use Rattle.format.specs.Checked.{checked};
-ghost use Rattle.reader.specs.Answers.{counted_of};
 
-use super::{Counts, Reading};
-use layout::claims_from;
-use marks::marked;
-use records::{claim, transition};
-use refusals::{Check, Detail, Refusal, refuse};
+use layout::Extent;
+use marks::{Cursor, Mark};
+use records::{claim, start, target, transition};
+use refusals::Refusal;
 use terms::Claim;
 
-// The transitions' records, from the head on.
-pub fn transitions(s: &[u8], n: usize, t: usize) -> Check
-    requires { (n ≤ 16) × (4 ≤ length s.now) }
-    ensures { result ≡ checked (transitions_at s.now n transitions_from t) }
+// The transitions' records.
+fn transitions(sheet: &[u8], extent: Extent) -> Result<(), Refusal>
+    requires { 4 ≤ length sheet.now }
+    ensures fits { IfOk result (λ _. start_from (size_of extent.places extent.transitions) ≤ length sheet.now) }
+    ensures value { result ≡ checked (transitions_at sheet.now extent.places transitions_from extent.transitions) }
 {
-    let mut at = 4;
-    for k in 0..t {
-        let one = transition(s, n, at);
-        let Check::Fine = one else {
-            return one;
-        };
-        at += 2 + 2 * n;
+    for k in 0..extent.transitions {
+        let at = extent.behind_transitions(k);
+        transition(Cursor { sheet, at }, extent.places)?;
     }
-    Check::Fine
+    Ok(())
+}
+
+// TR to TG.
+#[tactic(auto, unfolding(format::specs::Reading::setting_of))]
+pub fn setting(sheet: &[u8], extent: Extent) -> Result<(), Refusal>
+    requires { 4 ≤ length sheet.now }
+    ensures fits { IfOk result (λ _. claims_from (size_of extent.places extent.transitions) ≤ length sheet.now) }
+    ensures value { result ≡ checked (setting_of sheet.now (size_of extent.places extent.transitions)) }
+{
+    transitions(sheet, extent)?;
+    let at = extent.behind_transitions(extent.transitions);
+    start(Cursor { sheet, at }, extent.places)?;
+    let at = extent.target_from();
+    target(Cursor { sheet, at }, extent.places)
 }
 
 // A claim's record where one is due, or 8 where no more may come.
-fn claim_due(s: &[u8], n: usize, at: usize, more: usize) -> Check
-    requires { (n ≤ 16) × (at ≤ length s.now) }
-    ensures { result ≡ checked (claim_due s.now n at more) }
+#[tactic(auto, unfolding(format::specs::Reading::claim_due))]
+fn claim_due(cursor: Cursor<'_>, places: usize, more: usize) -> Result<(), Refusal>
+    requires { places ≤ 16 }
+    ensures fits { IfOk result (λ _. (0 < more) × (cursor.entry.at + (4 + places) ≤ length cursor.entry.sheet.now)) }
+    ensures value { result ≡ checked (claim_due cursor.entry.sheet.now places cursor.entry.at more) }
 {
-    let mark = marked(s, at, b'H', b'S');
-    let Check::Fine = mark else {
-        return mark;
-    };
+    cursor.marked(Mark::HS)?;
     if more == 0 {
-        return refuse(8, at);
+        return Err(Refusal::TooManyClaims(cursor.at));
     }
-    claim(s, n, at)
+    claim(cursor, places)
 }
 
-// The claims' records, to the sheet's end.
-pub fn claims(s: &[u8], n: usize, t: usize) -> Reading
-    requires { (n ≤ 16) × (t ≤ 64) × (claims_from (size_of n t) ≤ length s.now) }
-    ensures { result ≡ counted_of (size_of n t) (claims_of s.now (size_of n t)) }
+// The claims' records, to the sheet's end: how many there are.
+pub fn claims(sheet: &[u8], extent: Extent) -> Result<usize, Refusal>
+    requires { claims_from (size_of extent.places extent.transitions) ≤ length sheet.now }
+    ensures { result ≡ map_ok length (claims_of sheet.now (size_of extent.places extent.transitions)) }
 {
-    let mut at = claims_from(n, t);
-    if s.len() <= at {
-        return Reading::Malformed(Refusal {
-            number: 9,
-            detail: Detail::Length(s.len()),
-        });
+    let mut at = extent.claims_from();
+    if sheet.len() <= at {
+        return Err(Refusal::NoClaim(sheet.len()));
     }
-    let mut more = Claim::MOST;
-    while at < s.len() {
-        let due = claim_due(s, n, at, more);
-        if let Check::Refused(r) = due {
-            return Reading::Malformed(r);
-        }
-        at += 4 + n;
-        more -= 1;
+    let mut count = 0;
+    while at < sheet.len() {
+        claim_due(Cursor { sheet, at }, extent.places, Claim::MOST - count)?;
+        at += 4 + extent.places;
+        count += 1;
     }
-    Reading::Sound(Counts {
-        places: n,
-        transitions: t,
-        claims: Claim::MOST - more,
-    })
+    Ok(count)
 }

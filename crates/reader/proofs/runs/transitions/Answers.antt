@@ -1,27 +1,22 @@
--- `runs::transitions` meets its contract: what was to be read behind the head is what is left to read at `at`.
-use mathlib.Core.Path.{◌∙◌, sym}
-use native.Mathlib.Omega.{arith}
-use Rattle.format.specs.Reading.{transition_at}
-use Rattle.format.proofs.Sound.{transition-sound}
-use Rattle.format.proofs.Checks.{fine}
+use Rattle.std.proofs.Common.{rules, arith, ◌≡◌, sym, ap, ◌∙◌, ◌+◌, ◌*◌}
+use Rattle.format.specs.Reading.{transitions_from, transition_size}
 use Rattle.reader.proofs.Turns.{transitions_step, transitions_stop, transitions_done}
 use Rattle.reader.proofs.runs.transitions.Goals as goal
 
-pub returns-in_default : goal.returns-in_default
-returns-in_default c =
+pub returns-in_err-transition-clause-value : goal.returns-in_err-transition-clause-value
+returns-in_err-transition-clause-value c =
     let a = c.args in
-    let l = c.loop-k in
-    transitions_stop a.s.now a.n l.at l.k a.t (omega arith) c.transition-one.ensures c.in_default.is ∙ sym l.invariant.2
+    let stops = transitions_stop a.sheet.now a.extent.places c.behind_transitions-at.result c.loop-k.k a.extent.transitions (omega arith) c.transition.ensures.value c.in_err-transition.was in
+    grind (arith, stops, c.loop-k.invariant.rest, c.behind_transitions-at.ensures.0, c.in_err-transition.was, c.from_residual.ensures)
 
 pub loop-k-preserved : goal.loop-k-preserved
 loop-k-preserved c =
     let a = c.args in
-    let l = c.loop-k in
-    let x = fine (transition_at a.s.now a.n l.at) (sym c.transition-one.ensures ∙ c.in-Fine.is) in
-    (omega arith, omega (arith, (transition-sound a.s.now a.n l.at x.0 x.1).1), l.invariant.2 ∙ transitions_step a.s.now a.n l.at l.k a.t x.0 (omega arith) x.1)
+    let next : transitions_from + (c.loop-k.k + 1) * transition_size a.extent.places ≡ c.behind_transitions-at.result + transition_size a.extent.places = omega (arith, c.behind_transitions-at.ensures.0) in
+    let steps = transitions_step a.sheet.now a.extent.places c.behind_transitions-at.result c.loop-k.k a.extent.transitions _ next (omega arith) (sym c.transition.ensures.value ∙ c.in_ok-transition.was) in
+    record { whole = search (rules, arith); rest = grind (arith, steps, c.loop-k.invariant.rest, c.behind_transitions-at.ensures.0) }
 
-pub returns : goal.returns
-returns c =
+pub returns-clause-value : goal.returns-clause-value
+returns-clause-value c =
     let a = c.args in
-    let l = c.loop-k in
-    sym (l.invariant.2 ∙ transitions_done a.s.now a.n l.at l.k a.t (omega arith))
+    sym (c.loop-k.invariant.rest ∙ transitions_done a.sheet.now a.extent.places _ c.loop-k.k a.extent.transitions (omega arith))
