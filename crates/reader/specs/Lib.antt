@@ -1,1 +1,4 @@
 pub mod Answers
+pub mod Known
+pub mod Numbered
+pub mod Targets

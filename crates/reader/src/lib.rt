@@ -1,17 +1,19 @@
 // The reader of sheets: document 01, "What the sheet holds" and "Numbers that say no".
 #![tactic(auto)]
 
-ghost use Rattle.std.specs.Prelude.{◌≡◌};
-ghost use Rattle.format.specs.Read.{map_ok};
-ghost use Rattle.format.specs.Reading.{reading};
-ghost use Rattle.reader.specs.Answers.{counts_of};
-
 mod runs; // runs.rt: the records of a sheet, from its head on
+mod scan; // scan.rt: the whole sheet, from its parts
 
-use header::head;
+use amounts::Kind;
+use layout::Extent;
 use refusals::Refusal;
-use runs::{claims, setting};
+use rows::{numbers_at, tokens_from};
+pub use scan::counts;
+use std::marker::Model;
+use terms::{Claim, Place, Transition, among};
+use values::{Arcs, HalfSpace};
 
+// How many places, transitions and claims a sheet has.
 #[derive(Clone, Copy, Debug, PartialEq, Eq)]
 pub struct Counts {
     pub places: usize,
@@ -19,17 +21,123 @@ pub struct Counts {
     pub claims: usize,
 }
 
-// Reads a sheet, left to right and once.
-#[tactic(auto, unfolding(format::specs::Reading::reading))]
-fn scan(sheet: &[u8]) -> Result<Counts, Refusal>
-    ensures { result ≡ map_ok counts_of (reading sheet.now) }
-{
-    let extent = head(sheet)?;
-    setting(sheet, extent)?;
-    let claims = claims(sheet, extent)?;
-    Ok(Counts {
-        places: extent.places,
-        transitions: extent.transitions,
-        claims,
-    })
+// The first tokens are those of the places, and the others are zero.
+#[derive(Clone, Copy, Debug, PartialEq, Eq)]
+pub struct Target {
+    pub kind: Kind,
+    pub tokens: [u16; Place::MOST],
+}
+
+// A sound sheet in bytes that are lent, made by `read` alone. Callers see its contents.
+#[derive(Drop)]
+pub struct Sheet<'a> {
+    bytes: &'a [u8],
+    extent: Extent,
+    claims: usize,
+}
+
+impl<'a> Model for Sheet<'a> {
+    ghost use Rattle.format.specs.Contents.{Contents};
+    ghost use Rattle.reader.specs.Known.{contents_of, IsRead};
+
+    ghost Value = { Contents };
+
+    ghost view = { λ s. contents_of s.bytes.now };
+
+    ghost invariant = { λ s. IsRead s.bytes.now (record { places = s.extent.places; transitions = s.extent.transitions; claims = s.claims }) };
+}
+
+impl<'a> Sheet<'a> {
+    ghost use Rattle.std.specs.Prelude.{◌≡◌, ◌≤◌, length};
+    ghost use Rattle.nets.specs.Nets.{transition};
+    ghost use Rattle.nets.specs.HalfSpaces.{sixteen};
+    ghost use Rattle.format.specs.Contents.{half_space, claim};
+    ghost use Rattle.format.specs.Reading.{reading};
+    ghost use Rattle.reader.specs.Answers.{counts_of};
+    ghost use Rattle.reader.specs.Numbered.{claim_numbered, transition_numbered};
+    ghost use Rattle.reader.specs.Targets.{target_shown};
+
+    // Reads a sheet, left to right and once: what it holds, or the refusal of its first fault.
+    pub fn read(bytes: &'a [u8]) -> Result<Sheet<'a>, Refusal>
+        ensures { result ≡ reading bytes.now }
+    {
+        let (extent, claims) = counts(bytes)?;
+        Ok(Sheet {
+            bytes,
+            extent,
+            claims,
+        })
+    }
+
+    pub fn counts(&self) -> Counts
+        ensures { result ≡ counts_of self.now }
+    {
+        Counts {
+            places: self.extent.places,
+            transitions: self.extent.transitions,
+            claims: self.claims,
+        }
+    }
+
+    // The start, zero beyond the places.
+    pub fn start(&self) -> [u16; Place::MOST]
+        ensures { result ≡ sixteen 0 self.now.setting.start }
+    {
+        let at = self.extent.behind_transitions(self.extent.transitions);
+        tokens_from(self.bytes, at + 2, self.extent.places)
+    }
+
+    pub fn target(&self) -> Target
+        ensures { result ≡ target_shown self.now.setting.target }
+    {
+        let at = self.extent.target_from();
+        Target {
+            kind: Kind::from(self.bytes[at + 2]),
+            tokens: tokens_from(self.bytes, at + 3, self.extent.places),
+        }
+    }
+
+    // A claim is a half space.
+    pub fn half_space(&self, claim: Claim) -> Result<HalfSpace, Refusal>
+        ensures { result ≡ claim_numbered self.now claim }
+    {
+        if among(claim.0, self.claims) {
+            Ok(self.nth_half_space(claim.0))
+        } else {
+            Err(Refusal::NotAClaim(claim))
+        }
+    }
+
+    // The same, where the number is known to be a claim's.
+    pub fn nth_half_space(&self, number: usize) -> HalfSpace
+        requires { (1 ≤ number) × (number ≤ length self.now.claims) }
+        ensures { result ≡ half_space (claim self.now number) }
+    {
+        let at = self.extent.behind_claims(number - 1);
+        let numbers = numbers_at(self.bytes, at, self.extent.places);
+        HalfSpace::new(numbers.coefficients, self.extent.places, numbers.constant)
+    }
+
+    // The weights of a transition.
+    pub fn arcs(&self, transition: Transition) -> Result<Arcs<'a>, Refusal>
+        ensures { result ≡ transition_numbered self.now transition }
+    {
+        if among(transition.0, self.extent.transitions) {
+            Ok(self.nth_arcs(transition.0))
+        } else {
+            Err(Refusal::NotATransition(transition))
+        }
+    }
+
+    // The same, where the number is known to be a transition's.
+    pub fn nth_arcs(&self, number: usize) -> Arcs<'a>
+        requires { (1 ≤ number) × (number ≤ length self.now.setting.net.transitions) }
+        ensures { result ≡ transition self.now.setting.net number }
+    {
+        let n = self.extent.places;
+        let from = self.extent.behind_transitions(number - 1) + 2;
+        let taken = &self.bytes[from..from + n];
+        let put = &self.bytes[from + n..from + n + n];
+        Arcs::new(taken, put)
+    }
 }

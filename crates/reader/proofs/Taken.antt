@@ -20,19 +20,8 @@ use Rattle.format.specs.Reading.{size_of, words, transition_in, target_in, claim
 use Rattle.format.specs.Encoding.{claim_bytes, record_from}
 use Rattle.format.proofs.Places.{size_in, Held}
 use Rattle.format.proofs.ClaimRecord.{RecordStands}
-use Rattle.reader.specs.Answers.{counts_of, answer_of}
+use Rattle.reader.specs.Answers.{counts_of}
 use Rattle.reader.specs.declared.Counts.{Counts}
-
-sound_not_refused : {k : Counts} {r : Refusal} → Ok k ≡ Err r → ⊥
-sound_not_refused e = let z : ◌≡◌ {A = ℕ} 0 1 = cc in omega arith
-
-pub sound_answer : (y : Read Contents) {k : Counts} → answer_of y ≡ Ok k → (x : Contents) × (y ≡ Ok x) × (counts_of x ≡ k)
-sound_answer (Ok x) e = (x, refl, cc)
-sound_answer (Err r) e = absurd (sound_not_refused (sym e))
-
-pub refused_answer : (y : Read Contents) {r : Refusal} → answer_of y ≡ Err r → y ≡ Err r
-refused_answer (Ok x) e = absurd (sound_not_refused e)
-refused_answer (Err q) e = cc
 
 pub among_some : (i count : ℕ) → among i count ≡ true → (1 ≤ i) × (i ≤ count)
 among_some i count e =

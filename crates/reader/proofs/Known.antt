@@ -16,9 +16,9 @@ use Rattle.format.proofs.Places.{Held, held}
 use Rattle.format.proofs.Accepted.{formed}
 use Rattle.format.proofs.Nonzero.{HasOther, nonzero_exactly}
 use Rattle.reader.specs.declared.Counts.{Counts}
-use Rattle.known.specs.Known.{Known}
-use Rattle.rows.proofs.Filled.{length_signed}
-use Rattle.known.proofs.Taken.{most, weights_fit, weights_taken, claim_fits, claim_taken, start_fits, start_taken, target_fits, target_taken, tc_is, c_is}
+use Rattle.reader.specs.Known.{Known, contents_of}
+use Rattle.rows.proofs.Rows.{length_signed}
+use Rattle.reader.proofs.Taken.{most, weights_fit, weights_taken, claim_fits, claim_taken, start_fits, start_taken, target_fits, target_taken, tc_is, c_is}
 
 pub all_at : {A : Type 0} (P : A → Type 0) (d : A) (xs : List A) (i : ℕ) → i < length xs → All P xs → P (get_or xs i d)
 unfolding All
@@ -31,7 +31,7 @@ same_contents s x y e f = cc
 
 module _ (s : List ℕ) (k : Counts) (q : Known s k) where
   abbrev x : Contents
-  x = q.contents
+  x = contents_of s
 
   there : Held s x
   there = held s x q.is_read
@@ -99,3 +99,6 @@ module _ (s : List ℕ) (k : Counts) (q : Known s k) where
 
   pub transitions_count : length x.setting.net.transitions ≡ k.transitions
   transitions_count = sym (tc_is s x k there q.counts)
+
+  pub claims_count : length x.claims ≡ k.claims
+  claims_count = sym (c_is s x k there q.counts)

@@ -1,3 +1,0 @@
-pub mod Taken
-pub mod Known
-pub mod Asking

@@ -1,0 +1,24 @@
+use Rattle.std.proofs.Common.{arith, ap, ap₂, ◌∙◌, List, ℕ, ◌+◌}
+use Rattle.amounts.specs.declared.Kind.{Kind}
+use Rattle.nets.specs.HalfSpaces.{sixteen}
+use Rattle.format.specs.Reading.{byte}
+use Rattle.reader.specs.declared.Target.{Target}
+use Rattle.reader.specs.Targets.{target_shown}
+use Rattle.reader.proofs.Known.{target_whole, target_is}
+use Rattle.reader.proofs.Views.{kinds-agree}
+use Rattle.reader.proofs.Sheet.target.Goals as goal
+
+pub bounds-self-inside-at : goal.bounds-self-inside-at
+bounds-self-inside-at c =
+    omega (arith, target_whole c.self.inside.bytes.now _ c.self.invariant.known c.target_from-at.result c.target_from-at.ensures.0)
+
+pub tokens_from-requires : goal.tokens_from-requires
+tokens_from-requires c =
+    (c.self.inside.extent.most_places, omega (arith, target_whole c.self.inside.bytes.now _ c.self.invariant.known c.target_from-at.result c.target_from-at.ensures.0))
+
+pub returns : goal.returns
+returns c =
+    let s = c.self.inside.bytes.now in
+    ap₂ {C = Target} (λ (q : Kind) (m : List ℕ). record { kind = q; tokens = m }) (c.from.ensures ∙ kinds-agree (byte s (c.target_from-at.result + 2))) c.tokens_from.ensures
+    ∙ ap target_shown (target_is s _ c.self.invariant.known c.target_from-at.result c.target_from-at.ensures.0)
+    ∙ ap (λ x. target_shown x.setting.target) c.self.view_is
