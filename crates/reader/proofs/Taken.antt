@@ -1,6 +1,5 @@
 -- What the reader's answer tells: a sound one comes of sound contents with these counts, and a refusal is the sheet's.
-use Rattle.std.specs.Prelude.{Err, Ok}
-use mathlib.Core.Path.{◌≡◌, refl, sym, ap, ◌∙◌}
+use mathlib.Core.Path.{◌≡◌, sym, ap, ◌∙◌}
 use mathlib.Core.List.{List}
 use Prim.Native.Nat.{ℕ, suc, ◌+◌, ◌-◌, ◌*◌, ◌≤◌, ◌<◌}
 use native.Mathlib.Nat.{mul-le-mul_right}
@@ -12,8 +11,6 @@ use lib.ListN.{length, take, drop}
 use borrow.Author.Tests.{leb-true}
 use Rattle.terms.specs.Limits.{among}
 use Rattle.format.proofs.Sound.{cond-true}
-use Rattle.refusals.specs.declared.Refusal.{Refusal}
-use Rattle.format.specs.Read.{Read}
 use Rattle.nets.specs.Nets.{transition, none}
 use Rattle.format.specs.Contents.{Contents, claim, no_claim}
 use Rattle.format.specs.Reading.{size_of, words, transition_in, target_in, claim_in, transition_size, claim_size, transitions_from, target_from, claims_from}

@@ -1,18 +1,17 @@
 -- One turn of each loop over records: what is left to read at a byte is one record, and what is left behind it.
 use Rattle.std.specs.Prelude.{Err, Ok}
-use mathlib.Core.Path.{◌≡◌, refl, sym, ap, ◌∙◌}
+use mathlib.Core.Path.{◌≡◌, refl, ap, ◌∙◌}
 use mathlib.Core.List.{List, ◌∷◌}
-use Prim.Native.Nat.{ℕ, zero, suc, ◌+◌, ◌-◌, ◌*◌, ◌≤◌, ◌<◌}
+use Prim.Native.Nat.{ℕ, zero, suc, ◌+◌, ◌-◌, ◌≤◌, ◌<◌}
 use native.Mathlib.Nat.{add-zero}
 use native.Mathlib.Omega.{arith}
 use lib.ListN.{length}
 use borrow.Author.Tests.{le-leb, lt-leb}
 use Rattle.refusals.specs.declared.Refusal.{Refusal}
 use Rattle.refusals.specs.Refusals.{Check}
-use Rattle.nets.specs.Nets.{Transition}
 use Rattle.format.specs.Read.{Read, ◌>>=◌, map_ok}
 use Rattle.format.specs.Contents.{Claim}
-use Rattle.format.specs.Reading.{Size, transition_at, transitions_at, transition_size, claim_due, claims_at, claim_size}
+use Rattle.format.specs.Reading.{transition_at, transitions_at, transition_size, claim_due, claims_at, claim_size}
 use Rattle.format.specs.Checked.{checked}
 use Rattle.format.proofs.Checks.{stop_bind, map_sound, fine}
 

@@ -1,27 +1,26 @@
 -- What the views of a sheet give: its target, a claim and a transition, of numbers that a sheet can hold.
-use Rattle.std.specs.Prelude.{Ok}
-use mathlib.Core.Path.{◌≡◌, refl, sym, ap, ap₂, ◌∙◌, subst}
+use mathlib.Core.Path.{◌≡◌, refl, sym, ap, ap₂, ◌∙◌}
 use mathlib.Core.Bool.{Bool, true, false}
 use mathlib.Core.List.{List}
-use Prim.Native.Nat.{ℕ, ◌+◌, ◌-◌, ◌*◌, ◌≤◌, ◌<◌}
+use Prim.Native.Nat.{ℕ, ◌+◌, ◌-◌, ◌*◌, ◌≤◌}
 use native.Mathlib.Omega.{arith}
 use lib.Dec.{eqb}
 use lib.IntN.{ℤ, pos}
-use lib.ListN.{length, get_or, take, drop}
+use lib.ListN.{length, take}
 use lib.Seq.{take_at}
 use Rattle.amounts.specs.Kinds.{kind_of_byte}
 use Rattle.nets.specs.Nets.{transition}
 use Rattle.nets.specs.HalfSpaces.{HalfSpace, sixteen}
 use Rattle.format.specs.Contents.{half_space, claim}
-use Rattle.format.specs.Formed.{IsSheet, FormedTransition, FormedClaim}
-use Rattle.format.specs.Reading.{byte, bytes, kind_of, size_of, claim_in, transition_in, claims_from, claim_size, transitions_from, transition_size}
-use Rattle.format.proofs.Standing.{length-bytes, part_bytes}
+use Rattle.format.specs.Formed.{IsSheet}
+use Rattle.format.specs.Reading.{bytes, kind_of, size_of, claim_in, claims_from, claim_size, transitions_from, transition_size}
+use Rattle.format.proofs.Standing.{length-bytes}
 use Rattle.rows.proofs.Rows.{length_signed}
 use Rattle.values.specs.Held.{space_in, IsSpace, arcs_in, AreArcs}
 use Rattle.reader.specs.declared.Counts.{Counts}
 use Rattle.reader.specs.Known.{Known, contents_of}
 use Rattle.reader.specs.Targets.{kind_is}
-use Rattle.reader.proofs.Known.{limits, claim_is, space_is, formed_claim, weights_whole, transition_is, formed_transition}
+use Rattle.reader.proofs.Known.{limits, space_is, formed_claim, transition_is, formed_transition}
 
 pub kinds-agree : (b : ℕ) → kind_of_byte b ≡ kind_is (kind_of b)
 kinds-agree b = by_test (eqb b 0) refl

@@ -8,7 +8,7 @@ use amounts::Kind;
 use layout::Extent;
 use refusals::Refusal;
 use rows::{numbers_at, tokens_from};
-pub use scan::counts;
+pub use scan::measure;
 use std::marker::Model;
 use terms::{Claim, Place, Transition, among};
 use values::{Arcs, HalfSpace};
@@ -61,7 +61,7 @@ impl<'a> Sheet<'a> {
     pub fn read(bytes: &'a [u8]) -> Result<Sheet<'a>, Refusal>
         ensures { result ≡ reading bytes.now }
     {
-        let (extent, claims) = counts(bytes)?;
+        let (extent, claims) = measure(bytes)?;
         Ok(Sheet {
             bytes,
             extent,

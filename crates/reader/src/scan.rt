@@ -11,7 +11,7 @@ use refusals::Refusal;
 
 // How many places, transitions and claims there are.
 #[tactic(auto, unfolding(format::specs::Reading::reading))]
-pub fn counts(sheet: &[u8]) -> Result<(Extent, usize), Refusal>
+pub fn measure(sheet: &[u8]) -> Result<(Extent, usize), Refusal>
     ensures { map_ok (λ k. told k.0.places k.0.transitions k.1) result ≡ map_ok counts_of (reading sheet.now) }
 {
     let extent = head(sheet)?;

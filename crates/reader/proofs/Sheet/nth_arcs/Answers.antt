@@ -1,8 +1,7 @@
-use Rattle.std.proofs.Common.{arith, rules, ap, sym, ◌∙◌, ◌≤◌, ◌≡◌, length, ◌+◌, ◌-◌}
+use Rattle.std.proofs.Common.{arith, ap, ◌∙◌, ◌≤◌, length, ◌+◌}
 use Rattle.nets.specs.Nets.{transition}
-use Rattle.format.specs.Reading.{bytes}
 use Rattle.format.proofs.Standing.{part_bytes}
-use Rattle.reader.proofs.Known.{limits, weights_whole, transitions_count}
+use Rattle.reader.proofs.Known.{weights_whole, transitions_count}
 use Rattle.reader.proofs.Views.{arcs}
 use Rattle.reader.proofs.Sheet.nth_arcs.Goals as goal
 

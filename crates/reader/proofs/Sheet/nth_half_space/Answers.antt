@@ -1,10 +1,8 @@
-use Rattle.std.proofs.Common.{arith, rules, ap, sym, ◌∙◌, ◌≤◌, ◌≡◌, length, ℤ, subst, refl}
+use Rattle.std.proofs.Common.{arith, rules, ap, ◌∙◌, ◌≤◌, length}
 use mir.Syntax.{w16}
 use mir.Val.{SFits}
 use mir.Facts.{to_z-of_z}
 use Rattle.format.specs.Contents.{half_space, claim}
-use Rattle.format.proofs.ClaimRecord.{sheet_of}
-use Rattle.values.specs.Held.{space_in, IsSpace}
 use Rattle.reader.proofs.Known.{limits, claim_whole, claims_count}
 use Rattle.reader.proofs.Views.{space}
 use Rattle.reader.proofs.Sheet.nth_half_space.Goals as goal

@@ -1,4 +1,4 @@
-use Rattle.std.proofs.Common.{arith, sym, ◌∙◌, ap}
+use Rattle.std.proofs.Common.{arith, sym}
 use Rattle.format.proofs.ClaimRecord.{sheet_of}
 use Rattle.reader.specs.Answers.{told}
 use Rattle.reader.proofs.Whole.{known_from}

@@ -1,6 +1,6 @@
-use Rattle.std.proofs.Common.{arith, sym, ◌∙◌, ap}
+use Rattle.std.proofs.Common.{arith, ◌∙◌, ap}
 use Rattle.nets.specs.HalfSpaces.{sixteen}
-use Rattle.reader.proofs.Known.{limits, start_whole, start_is}
+use Rattle.reader.proofs.Known.{start_whole, start_is}
 use Rattle.reader.proofs.Sheet.start.Goals as goal
 
 pub tokens_from-requires : goal.tokens_from-requires

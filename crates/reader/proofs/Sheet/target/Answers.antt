@@ -1,6 +1,5 @@
 use Rattle.std.proofs.Common.{arith, ap, ap₂, ◌∙◌, List, ℕ, ◌+◌}
 use Rattle.amounts.specs.declared.Kind.{Kind}
-use Rattle.nets.specs.HalfSpaces.{sixteen}
 use Rattle.format.specs.Reading.{byte}
 use Rattle.reader.specs.declared.Target.{Target}
 use Rattle.reader.specs.Targets.{target_shown}

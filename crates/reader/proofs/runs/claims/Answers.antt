@@ -1,7 +1,6 @@
-use Rattle.std.proofs.Common.{rules, arith, ◌≡◌, refl, sym, ap, ◌∙◌, ◌+◌, ◌*◌, ◌-◌, suc, length, ℕ}
+use Rattle.std.proofs.Common.{arith, ◌≡◌, refl, sym, ap, ◌∙◌, ◌+◌, ◌-◌, suc, length, ℕ}
 use borrow.Author.Tests.{le-leb, lt-leb}
 use Rattle.format.specs.Reading.{size_of, claims_from, claims_of, claims_at, claim_due}
-use Rattle.format.specs.Read.{map_ok}
 use Rattle.format.specs.Checked.{checked}
 use Rattle.format.proofs.Checks.{turned}
 use Rattle.reader.proofs.Turns.{counted_from, claims_begin, claims_step, claims_stop, claims_done}

@@ -1,4 +1,4 @@
-use Rattle.std.proofs.Common.{rules, arith, ◌≡◌, sym, ap, ◌∙◌, ◌+◌, ◌*◌}
+use Rattle.std.proofs.Common.{rules, arith, ◌≡◌, sym, ◌∙◌, ◌+◌, ◌*◌}
 use Rattle.format.specs.Reading.{transitions_from, transition_size}
 use Rattle.reader.proofs.Turns.{transitions_step, transitions_stop, transitions_done}
 use Rattle.reader.proofs.runs.transitions.Goals as goal

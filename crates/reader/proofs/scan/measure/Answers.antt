@@ -1,7 +1,7 @@
-use Rattle.std.proofs.Common.{rules, arith, sym}
+use Rattle.std.proofs.Common.{arith, sym}
 use Rattle.format.specs.Reading.{size_of}
 use Rattle.reader.proofs.Whole.{scanned}
-use Rattle.reader.proofs.scan.counts.Goals as goal
+use Rattle.reader.proofs.scan.measure.Goals as goal
 
 pub returns : goal.returns
 returns c =
