@@ -9,13 +9,14 @@ ghost use Rattle.format.specs.Reading.{bytes, word, words, claim_in};
 use amounts::{Coefficient, Constant};
 use terms::Place;
 
-pub fn weights_from(s: &[u8], at: usize, n: usize) -> [u8; Place::MOST]
-    requires { (n ≤ 16) × (at + n ≤ length s.now) }
-    ensures { result ≡ sixteen 0 (bytes s.now at n) }
+// Numbers of one byte.
+pub fn sixteen(row: &[u8]) -> [u8; Place::MOST]
+    requires { length row.now ≤ 16 }
+    ensures { result ≡ sixteen 0 row.now }
 {
-    let mut row = [0; Place::MOST];
-    row[..n].copy_from_slice(&s[at..at + n]);
-    row
+    let mut sixteen = [0; Place::MOST];
+    sixteen[..row.len()].copy_from_slice(row);
+    sixteen
 }
 
 // A number of two bytes, the low byte first.
