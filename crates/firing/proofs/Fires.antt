@@ -1,19 +1,18 @@
 -- A firing place by place: each place of the net has its own sum, and the numbers beyond the net stay where they are.
 use Rattle.std.specs.Prelude.{Ok}
 use mathlib.Core.Path.{◌≡◌, sym, ap, ◌∙◌}
-use mathlib.Core.List.{List, ◌++◌, append_assoc}
+use mathlib.Core.List.{List, ◌∷◌, ◌++◌, append_assoc, append-nil}
 use Prim.Native.Nat.{ℕ, suc, ◌+◌, ◌-◌, ◌≤◌, ◌<◌}
 use native.Mathlib.Numerals.{add-one}
 use native.Mathlib.Omega.{arith}
 use mathlib.Core.Bool.{true, false}
-use lib.ListN.{length, get_or, take, drop, set}
-use lib.Seq.{take-suc, take_all, drop-cons, length-take-le, get_or-take, set_at}
+use lib.ListN.{length, get_or, take, drop, set, drop_of_length-le}
+use lib.Seq.{get_or-append_seam, take-suc, take_all, drop-cons, length-take-le, set_at}
 use Rattle.nets.specs.Nets.{Transition, Marking, ◌⊟◌, fire}
 use Rattle.nets.proofs.Vectors.{length_plus, get_or-plus, length_minus, get_or-minus}
 use borrow.Author.Tests.{lt-ltb, le-ltb, ltb-false}
 use Rattle.terms.specs.Limits.{most_tokens}
-use Rattle.firing.specs.Firing.{is_short, is_over, lowest_short, lowest_over, fired_in}
-use Rattle.firing.specs.Weighted.{weighted}
+use Rattle.firing.specs.Firing.{is_short, is_over, lowest_short, lowest_over}
 use Rattle.firing.proofs.Lowest.{none_found}
 
 -- over as many weights as places
@@ -40,46 +39,41 @@ one_more p v after tokens l h e =
     ∙ set_at (take p after) (get_or tokens p 0) (drop (suc p) tokens) v p (length-take-le p after (omega arith))
     ∙ sym (rw (add-one p, take-suc after p 0 l, e, append_assoc))
 
--- The weights and the tokens are the first n of sixteen.
-module _ (n : ℕ) (tokens taken put : List ℕ) (few : n ≤ 16) (a : length tokens ≡ 16) (b : length taken ≡ 16) (d : length put ≡ 16) where
-  taken_all : length (take n taken) ≡ length (take n tokens)
-  taken_all = length-take-le n taken (omega arith) ∙ sym (length-take-le n tokens (omega arith))
+-- place p is as it was
+untouched : (p : ℕ) (after : Marking) (tokens : List ℕ) → p ≤ length after → p < length tokens → get_or (so_far p after tokens) p 0 ≡ get_or tokens p 0
+untouched p after tokens h l =
+    ap (λ (rest : List ℕ). get_or (take p after ++ rest) p 0) (drop-cons tokens p 0 l)
+    ∙ ap (λ (i : ℕ). get_or (take p after ++ (get_or tokens p 0 ∷ drop (suc p) tokens)) i 0) (sym (length-take-le p after h))
+    ∙ get_or-append_seam (take p after) (get_or tokens p 0) (drop (suc p) tokens) 0
 
-  put_all : length (take n put) ≡ length (take n tokens)
-  put_all = length-take-le n put (omega arith) ∙ sym (length-take-le n tokens (omega arith))
+-- What a place's numbers say of it, in a firing over as many weights as places.
+module _ (t : Transition) (m : Marking) (as-taken : length t.taken ≡ length m) (as-put : length t.put ≡ length m) where
+  pub over_here : (p : ℕ) → most_tokens < get_or m p 0 - get_or t.taken p 0 + get_or t.put p 0 → is_over (fire t m) p ≡ true
+  over_here p h = rw (fire_at t m as-taken as-put p) (lt-ltb _ _ h)
 
-  pub fired_length : length (fire (weighted n taken put) (take n tokens)) ≡ n
-  fired_length = fire-length (weighted n taken put) (take n tokens) taken_all put_all ∙ length-take-le n tokens (omega arith)
+  pub room_here : (p : ℕ) → get_or m p 0 - get_or t.taken p 0 + get_or t.put p 0 ≤ most_tokens → is_over (fire t m) p ≡ false
+  room_here p h = rw (fire_at t m as-taken as-put p) (le-ltb _ _ h)
 
-  pub fired_at : (p : ℕ) → p < n → get_or (fire (weighted n taken put) (take n tokens)) p 0 ≡ get_or tokens p 0 - get_or taken p 0 + get_or put p 0
-  fired_at p l =
-      fire_at (weighted n taken put) (take n tokens) taken_all put_all p
-      ∙ rw (get_or-take n tokens p 0 l, get_or-take n taken p 0 l, get_or-take n put p 0 l)
+  pub room_of : (p : ℕ) → p < length m → lowest_over (length m) (fire t m) ≡ Ok tt → get_or m p 0 - get_or t.taken p 0 + get_or t.put p 0 ≤ most_tokens
+  room_of p l e = ltb-false _ _ (rw (fire_at t m as-taken as-put p) at (none_found _ _ (length m) e p l))
 
-  pub over_here : (p : ℕ) → p < n → most_tokens < get_or tokens p 0 - get_or taken p 0 + get_or put p 0 → is_over (fire (weighted n taken put) (take n tokens)) p ≡ true
-  over_here p l h = rw (fired_at p l) (lt-ltb _ _ h)
+  -- before place p has moved on
+  pub held_here : (row : List ℕ) (p : ℕ) → row ≡ so_far p (fire t m) m → p < length m → get_or row p 0 ≡ get_or m p 0
+  held_here row p is l = ap (λ (row : List ℕ). get_or row p 0) is ∙ untouched p (fire t m) m (omega (arith, fire-length t m as-taken as-put)) l
 
-  pub room_here : (p : ℕ) → p < n → get_or tokens p 0 - get_or taken p 0 + get_or put p 0 ≤ most_tokens → is_over (fire (weighted n taken put) (take n tokens)) p ≡ false
-  room_here p l h = rw (fired_at p l) (le-ltb _ _ h)
+  pub fired_step : (p v : ℕ) → p < length m → v ≡ get_or m p 0 - get_or t.taken p 0 + get_or t.put p 0 → set (so_far p (fire t m) m) p v ≡ so_far (p + 1) (fire t m) m
+  fired_step p v l e = one_more p v _ m (omega (arith, fire-length t m as-taken as-put)) l (fire_at t m as-taken as-put p ∙ sym e)
 
-  pub room_of : (p : ℕ) → p < n → lowest_over n (fire (weighted n taken put) (take n tokens)) ≡ (Ok tt) → get_or tokens p 0 - get_or taken p 0 + get_or put p 0 ≤ most_tokens
-  room_of p l e = ltb-false _ _ (rw (fired_at p l) at (none_found _ _ n e p l))
+  pub fired_all : (p : ℕ) → length m ≤ p → so_far p (fire t m) m ≡ fire t m
+  fired_all p h =
+      rw (take_all p (fire t m) (omega (arith, fire-length t m as-taken as-put)), drop_of_length-le m h) (append-nil (fire t m))
 
-  pub fired_step : (p v : ℕ) → p < n → v ≡ get_or tokens p 0 - get_or taken p 0 + get_or put p 0 → set (so_far p (fire (weighted n taken put) (take n tokens)) tokens) p v ≡ so_far (p + 1) (fire (weighted n taken put) (take n tokens)) tokens
-  fired_step p v l e = one_more p v _ tokens (omega (arith, fired_length)) (omega arith) (fired_at p l ∙ sym e)
+module _ (m taken : List ℕ) (p : ℕ) where
+  pub short_here : get_or m p 0 < get_or taken p 0 → is_short taken m p ≡ true
+  short_here h = lt-ltb _ _ h
 
-  pub fired_all : (p : ℕ) → p ≤ n → n ≤ p → so_far p (fire (weighted n taken put) (take n tokens)) tokens ≡ fired_in n (weighted n taken put) tokens
-  fired_all p l h =
-      let same : p ≡ n = omega arith in
-      rw (same, take_all n (fire (weighted n taken put) (take n tokens)) (omega (arith, fired_length)))
+  pub enough_here : get_or taken p 0 ≤ get_or m p 0 → is_short taken m p ≡ false
+  enough_here h = le-ltb _ _ h
 
--- What a place's numbers say of the place among the first n.
-module _ (n : ℕ) (tokens taken : List ℕ) (p : ℕ) (l : p < n) where
-  pub short_here : get_or tokens p 0 < get_or taken p 0 → is_short (take n taken) (take n tokens) p ≡ true
-  short_here h = rw (get_or-take n tokens p 0 l, get_or-take n taken p 0 l) (lt-ltb _ _ h)
-
-  pub enough_here : get_or taken p 0 ≤ get_or tokens p 0 → is_short (take n taken) (take n tokens) p ≡ false
-  enough_here h = rw (get_or-take n tokens p 0 l, get_or-take n taken p 0 l) (le-ltb _ _ h)
-
-  pub enough_of : lowest_short n (take n taken) (take n tokens) ≡ (Ok tt) → get_or taken p 0 ≤ get_or tokens p 0
-  enough_of e = ltb-false _ _ (rw (get_or-take n tokens p 0 l, get_or-take n taken p 0 l) at (none_found _ _ n e p l))
+  pub enough_of : p < length m → lowest_short (length m) taken m ≡ Ok tt → get_or taken p 0 ≤ get_or m p 0
+  enough_of l e = ltb-false _ _ (none_found _ _ (length m) e p l)

@@ -10,6 +10,7 @@ use Rattle.terms.specs.declared.Place.{Place}
 use Rattle.refusals.specs.declared.Refusal.{Refusal}
 use Rattle.format.specs.Read.{choose}
 use Rattle.refusals.specs.Refusals.{Check}
+use Rattle.format.proofs.Parts.{never_both}
 use Rattle.firing.specs.Firing.{lowest}
 use Rattle.firing.specs.Table.{IsLowest}
 
@@ -39,7 +40,7 @@ module _ (test : ℕ → Bool) (refusal : Place → Refusal) where
   -- where none is found the test holds of none
   behind_first : (b : Bool) (k p : ℕ) → test p ≡ b → (lowest test refusal (p + 1) k ≡ (Ok tt) → (i : ℕ) → i < k → test (p + 1 + i) ≡ false)
       → choose b (Err (refusal (number p))) (lowest test refusal (p + 1) k) ≡ (Ok tt) → (i : ℕ) → i < suc k → test (p + i) ≡ false
-  behind_first true k p h rest e i l = absurd (fine_not_refused (sym e))
+  behind_first true k p h rest e i l = absurd (never_both _ tt e)
   behind_first false k p h rest e zero l = ap test (omega arith) ∙ h
   behind_first false k p h rest e (suc i) l = ap test (omega arith) ∙ rest e i (omega arith)
 

@@ -5,7 +5,7 @@ use Rattle.refusals.specs.declared.Refusal.TheVariants.{NotEnabled, TooManyToken
 use Rattle.terms.specs.declared.Place.{Place}
 use Rattle.refusals.specs.declared.Refusal.{Refusal}
 use Rattle.nets.specs.Nets as nets
-use Rattle.format.specs.Read.{choose}
+use Rattle.format.specs.Read.{choose, ◌>>◌}
 use Rattle.refusals.specs.Refusals.{Check}
 
 -- Of the k places that follow the first p, the lowest for which the test holds is refused. Places are numbered from 1, so it has the number p + 1.
@@ -30,3 +30,7 @@ lowest_over n after = lowest (is_over after) TooManyTokens 0 n
 -- A marking of the walk has 16 numbers. The first n are fired, and those beyond are neither read nor altered.
 abbrev pub fired_in : ℕ → nets.Transition → List ℕ → List ℕ
 fired_in n t tokens = nets.fire t (take n tokens) ++ drop n tokens
+
+-- what a firing is refused for, in order
+abbrev pub firing_check : ℕ → nets.Transition → nets.Marking → Check
+firing_check n t m = lowest_short n t.taken m >> lowest_over n (nets.fire t m)

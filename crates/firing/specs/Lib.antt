@@ -1,3 +1,2 @@
 pub mod Firing
-pub mod Weighted
 pub mod Table

@@ -1,67 +1,69 @@
-// What a firing does to each place. The first n of sixteen numbers are the net's places.
+// What a firing does to each place of a marking.
 #![tactic(auto)]
 
-ghost use Rattle.std.specs.Prelude.{◌≡◌, ◌≤◌, take, Ok};
+ghost use Rattle.std.specs.Prelude.{◌≡◌, length, OnOk, OnErr, Ok};
 ghost use Rattle.nets.specs.Nets.{fire};
-ghost use Rattle.firing.specs.Firing.{lowest_short, lowest_over, fired_in};
-ghost use Rattle.firing.specs.Weighted.{weighted};
+ghost use Rattle.format.specs.Read.{◌>>◌};
+ghost use Rattle.firing.specs.Firing.{lowest_short, lowest_over, firing_check};
+ghost use Rattle.values.specs.Held.{arcs_in};
 
-use refusals::{Check, Refusal};
-use terms::{Place, wide};
+use refusals::Refusal;
+use terms::Place;
+use values::Arcs;
 
 // The lowest place that has fewer tokens than are taken.
-pub fn short(tokens: [u16; Place::MOST], taken: [u8; Place::MOST], n: usize) -> Check
-    requires { n ≤ 16 }
-    ensures { result ≡ lowest_short n (take n taken) (take n tokens) }
+fn short(tokens: &[u16], taken: &[u8]) -> Result<(), Refusal>
+    requires { length taken.now ≡ length tokens.now }
+    ensures { result ≡ lowest_short (length tokens.now) taken.now tokens.now }
 {
-    for p in 0..n {
-        let held = tokens[p];
-        let out = wide(taken[p]);
-        if held < out {
-            return Check::Refused(Refusal::not_enabled(Place(p + 1)));
+    for (p, held) in tokens.iter().enumerate() {
+        if *held < u16::from(taken[p]) {
+            return Err(Refusal::NotEnabled(Place(p + 1)));
         }
     }
-    Check::Fine
+    Ok(())
 }
 
 // The lowest place that would pass the most tokens, once those taken have left.
-pub fn over(
-    tokens: [u16; Place::MOST],
-    taken: [u8; Place::MOST],
-    put: [u8; Place::MOST],
-    n: usize,
-) -> Check
-    requires { (n ≤ 16) × (lowest_short n (take n taken) (take n tokens) ≡ Fine) }
-    ensures { result ≡ lowest_over n (fire (weighted n taken put) (take n tokens)) }
+fn over(tokens: &[u16], taken: &[u8], put: &[u8]) -> Result<(), Refusal>
+    requires taken { length taken.now ≡ length tokens.now }
+    requires put { length put.now ≡ length tokens.now }
+    requires enabled { lowest_short (length tokens.now) taken.now tokens.now ≡ Ok tt }
+    ensures { result ≡ lowest_over (length tokens.now) (fire (arcs_in taken.now put.now) tokens.now) }
 {
-    for p in 0..n {
-        let held = tokens[p];
-        let out = wide(taken[p]);
-        let left = held - out;
-        let added = wide(put[p]);
-        if Place::TOKENS - added < left {
-            return Check::Refused(Refusal::too_many(Place(p + 1)));
+    for (p, held) in tokens.iter().enumerate() {
+        let left = *held - u16::from(taken[p]);
+        if Place::TOKENS - u16::from(put[p]) < left {
+            return Err(Refusal::TooManyTokens(Place(p + 1)));
         }
     }
-    Check::Fine
+    Ok(())
 }
 
-// The marking after a firing that no place refuses.
-pub fn fired(
-    tokens: [u16; Place::MOST],
-    taken: [u8; Place::MOST],
-    put: [u8; Place::MOST],
-    n: usize,
-) -> [u16; Place::MOST]
-    requires { (n ≤ 16) × (lowest_short n (take n taken) (take n tokens) ≡ Fine) × (lowest_over n (fire (weighted n taken put) (take n tokens)) ≡ Fine) }
-    ensures { result ≡ fired_in n (weighted n taken put) tokens }
+// A firing that no place refuses.
+fn move_on(tokens: &mut [u16], taken: &[u8], put: &[u8])
+    requires taken { length taken.now ≡ length tokens.old }
+    requires put { length put.now ≡ length tokens.old }
+    requires enabled { lowest_short (length tokens.old) taken.now tokens.old ≡ Ok tt }
+    requires room { lowest_over (length tokens.old) (fire (arcs_in taken.now put.now) tokens.old) ≡ Ok tt }
+    ensures { tokens.new ≡ fire (arcs_in taken.now put.now) tokens.old }
 {
-    let mut next = tokens;
-    for p in 0..n {
-        let out = wide(taken[p]);
-        let left = tokens[p] - out;
-        let added = wide(put[p]);
-        next[p] = left + added;
+    for (p, held) in tokens.iter_mut().enumerate() {
+        *held = *held - u16::from(taken[p]) + u16::from(put[p]);
     }
-    next
+}
+
+// Fires a transition: the tokens of the net's places move on. A refusal changes none.
+pub fn fire(tokens: &mut [u16], arcs: &Arcs<'_>) -> Result<(), Refusal>
+    requires { length arcs.now.taken ≡ length tokens.old }
+    ensures value { result ≡ firing_check (length tokens.old) arcs.now tokens.old }
+    ensures moved { OnOk result (tokens.new ≡ fire arcs.now tokens.old) }
+    ensures kept { OnErr result (tokens.new ≡ tokens.old) }
+{
+    let taken = arcs.taken();
+    let put = arcs.put();
+    short(tokens, taken)?;
+    over(tokens, taken, put)?;
+    move_on(tokens, taken, put);
+    Ok(())
 }

@@ -1,32 +1,24 @@
--- `firing::over` meets its contract: the first place that would have too many is the lowest, and none is short, so nothing is taken below zero.
-use Rattle.std.specs.Prelude.{Err}
-use mathlib.Core.Path.{◌∙◌, sym, ap}
-use native.Mathlib.Omega.{arith}
+use Rattle.std.proofs.Common.{arith, sym, ◌∙◌}
+use Rattle.values.specs.Held.{arcs_in}
 use Rattle.firing.proofs.Lowest.{found, passed, all_passed}
 use Rattle.firing.proofs.Fires.{enough_of, over_here, room_here}
 use Rattle.firing.proofs.over.Goals as goal
 
 pub overflow_sub-left : goal.overflow_sub-left
 overflow_sub-left c =
-    let a = c.args in
-    let l = c.loop-p in
-    omega (arith, c.wide-out.ensures.0, enough_of a.n a.tokens a.taken l.p (omega arith) c.requires.1)
+    omega (arith, c.from.ensures, enough_of c.args.tokens.now c.args.taken.now c.loop-p.p (omega arith) c.requires.enabled)
 
-pub returns-then-added-left : goal.returns-then-added-left
-returns-then-added-left c =
+pub returns-then-from-left : goal.returns-then-from-left
+returns-then-from-left c =
     let a = c.args in
-    let l = c.loop-p in
-    ap Err c.too_many.ensures
-    ∙ sym (l.invariant.1 ∙ found _ _ a.n l.p (omega arith) (over_here a.n a.tokens a.taken a.put (omega arith) (omega arith) (omega arith) (omega arith) l.p (omega arith) (omega (arith, c.wide-out.ensures.0, c.wide-added.ensures.0))))
+    let p = c.loop-p.p in
+    sym (c.loop-p.invariant ∙ found _ _ _ p (omega arith) (over_here (arcs_in a.taken.now a.put.now) a.tokens.now c.requires.taken c.requires.put p (omega (arith, c.from.ensures, c.from-in-loop-p.ensures))))
 
 pub loop-p-preserved : goal.loop-p-preserved
 loop-p-preserved c =
     let a = c.args in
-    let l = c.loop-p in
-    (omega arith, l.invariant.1 ∙ passed _ _ a.n l.p (omega arith) (room_here a.n a.tokens a.taken a.put (omega arith) (omega arith) (omega arith) (omega arith) l.p (omega arith) (omega (arith, c.wide-out.ensures.0, c.wide-added.ensures.0))))
+    let p = c.loop-p.p in
+    c.loop-p.invariant ∙ passed _ _ _ p (omega arith) (room_here (arcs_in a.taken.now a.put.now) a.tokens.now c.requires.taken c.requires.put p (omega (arith, c.from.ensures, c.from-in-loop-p.ensures)))
 
 pub returns : goal.returns
-returns c =
-    let a = c.args in
-    let l = c.loop-p in
-    sym (l.invariant.1 ∙ all_passed _ _ a.n l.p (omega arith))
+returns c = sym (c.loop-p.invariant ∙ all_passed _ _ _ c.loop-p.p (omega arith))
