@@ -48,7 +48,7 @@ impl<'a> Model for Sheet<'a> {
 }
 
 impl<'a> Sheet<'a> {
-    ghost use Rattle.std.specs.Prelude.{◌≡◌, ◌≤◌, length};
+    ghost use Rattle.std.specs.Prelude.{◌≡◌, ◌≤◌, length, IfOk};
     ghost use Rattle.nets.specs.Nets.{transition};
     ghost use Rattle.nets.specs.HalfSpaces.{sixteen};
     ghost use Rattle.format.specs.Contents.{half_space, claim};
@@ -99,7 +99,8 @@ impl<'a> Sheet<'a> {
 
     // A claim is a half space.
     pub fn half_space(&self, claim: Claim) -> Result<HalfSpace, Refusal>
-        ensures { result ≡ claim_numbered self.now claim }
+        ensures value { result ≡ claim_numbered self.now claim }
+        ensures places { IfOk result (λ h. length h.coefficients ≡ self.now.setting.net.places) }
     {
         if among(claim.0, self.claims) {
             Ok(self.nth_half_space(claim.0))
@@ -111,7 +112,8 @@ impl<'a> Sheet<'a> {
     // The same, where the number is known to be a claim's.
     pub fn nth_half_space(&self, number: usize) -> HalfSpace
         requires { (1 ≤ number) × (number ≤ length self.now.claims) }
-        ensures { result ≡ half_space (claim self.now number) }
+        ensures value { result ≡ half_space (claim self.now number) }
+        ensures places { length result.coefficients ≡ self.now.setting.net.places }
     {
         let at = self.extent.behind_claims(number - 1);
         let numbers = numbers_at(self.bytes, at, self.extent.places);
@@ -120,7 +122,8 @@ impl<'a> Sheet<'a> {
 
     // The weights of a transition.
     pub fn arcs(&self, transition: Transition) -> Result<Arcs<'a>, Refusal>
-        ensures { result ≡ transition_numbered self.now transition }
+        ensures value { result ≡ transition_numbered self.now transition }
+        ensures places { IfOk result (λ t. length t.taken ≡ self.now.setting.net.places) }
     {
         if among(transition.0, self.extent.transitions) {
             Ok(self.nth_arcs(transition.0))
@@ -132,7 +135,8 @@ impl<'a> Sheet<'a> {
     // The same, where the number is known to be a transition's.
     pub fn nth_arcs(&self, number: usize) -> Arcs<'a>
         requires { (1 ≤ number) × (number ≤ length self.now.setting.net.transitions) }
-        ensures { result ≡ transition self.now.setting.net number }
+        ensures value { result ≡ transition self.now.setting.net number }
+        ensures places { length result.taken ≡ self.now.setting.net.places }
     {
         let n = self.extent.places;
         let from = self.extent.behind_transitions(number - 1) + 2;

@@ -12,7 +12,7 @@ use lib.Seq.{length-take-le}
 use borrow.Author.Tests.{le-leb, ltb-true, ltb-false}
 use Rattle.terms.specs.Limits.{among, most_tokens}
 use Rattle.refusals.specs.declared.Refusal.TheVariants.{NotATransition, NotEnabled, TooManyTokens}
-use Rattle.refusals.specs.Refusals.{detail_of}
+use Rattle.refusals.specs.Refusals.{number_of, detail_of}
 use Rattle.terms.specs.declared.Place.{Place}
 use Rattle.terms.specs.declared.Transition.{Transition}
 use Rattle.nets.specs.Nets as nets
@@ -23,8 +23,8 @@ use Rattle.format.specs.Contents.{Contents}
 use Rattle.format.specs.Formed.{FormedTransition, FormedSetting}
 use Rattle.format.proofs.Sound.{places_fit_lem}
 use Rattle.refusals.specs.Refusals.{Check}
-use Rattle.known.proofs.Known.{all_at}
-use Rattle.known.proofs.Taken.{among_some}
+use Rattle.reader.proofs.Known.{all_at}
+use Rattle.reader.proofs.Taken.{among_some}
 use Rattle.firing.specs.Firing.{is_short, is_over, lowest_short, lowest_over}
 use Rattle.walk.specs.Walk.{first, firing_checks, step_of}
 use Rattle.walk.specs.declared.Marking.{Marking}
@@ -33,13 +33,13 @@ use Rattle.firing.proofs.Lowest.{none_found, none_or_lowest}
 use Rattle.firing.proofs.Fires.{fire-length}
 
 -- the number and the detail of an answer tell refusals apart
-abbrev number_of : Check → ℕ
-number_of (Ok u) = 0
-number_of (Err r) = r.number
+abbrev check_number : Check → ℕ
+check_number (Ok u) = 0
+check_number (Err r) = number_of r
 
 abbrev check_detail : Check → ℕ
 check_detail (Ok u) = 0
-check_detail (Err r) = detail_of r.detail
+check_detail (Err r) = detail_of r
 
 same_place : (p q : Place) → p.0 ≡ q.0 → p ≡ q
 same_place p q e = ap {B = Place} (λ (i : ℕ). record { 0 = i }) e
@@ -139,8 +139,8 @@ module _ (x : Contents) (f : FormedSetting x.setting) (t : Transition) (lent : M
   outcome = outcome_of (among t.0 (length net.transitions)) refl
 
   -- the answers' numbers tell them apart
-  apart : (a b : Check) → answer ≡ a → answer ≡ b → number_of a ≡ number_of b
-  apart a b e g = ap number_of (sym e ∙ g)
+  apart : (a b : Check) → answer ≡ a → answer ≡ b → check_number a ≡ check_number b
+  apart a b e g = ap check_number (sym e ∙ g)
 
   -- 12: transition number 0 or above T, with that number
   pub twelve_exactly : (answer ≡ Err (NotATransition t)) ↔ (IsTransition net t.0 → ⊥)

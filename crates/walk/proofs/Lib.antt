@@ -1,4 +1,2 @@
-pub mod Order
-pub mod Asked
 pub mod Exactly
 pub mod Walks

@@ -15,13 +15,14 @@ use Rattle.format.specs.Contents.{Contents}
 use Rattle.format.specs.Reading.{reading}
 use Rattle.format.specs.Formed.{IsSheet, Formed}
 use Rattle.format.proofs.Accepted.{formed}
+use Rattle.format.proofs.Parts.{sound_same}
 use Rattle.format.proofs.Sound.{places_fit_lem}
 use Rattle.refusals.specs.Refusals.{Check}
 use Rattle.firing.specs.Firing.{fired_in}
-use Rattle.walk.specs.Walk.{moved_to, step_of, begin_of, walked, AllFine}
+use Rattle.walk.specs.Walk.{moved_to, step_of, begun, begin_of, walked, AllFine}
 use Rattle.firing.specs.Table.{StaysWithin}
 use Rattle.walk.specs.declared.Marking.{Marking}
-use Rattle.walk.specs.declared.Moved.{Moved}
+use Rattle.walk.specs.Walk.{Moved}
 use Rattle.firing.proofs.Fires.{fire-length}
 use Rattle.walk.proofs.Exactly.{length_places, taken_long, put_long, fine_exactly}
 
@@ -128,23 +129,23 @@ module _ (x : Contents) (f : Formed x) where
   start_long : length x.setting.start ≡ n
   start_long = f.setting.start.places
 
-  pub begins_at : take n (begin_of (Ok x)).marking.tokens ≡ x.setting.start
+  pub begins_at : take n (begun x).tokens ≡ x.setting.start
   begins_at = take_at x.setting.start (replicate (16 - length x.setting.start) 0) n start_long
 
-  pub begins_long : length (begin_of (Ok x)).marking.tokens ≡ 16
+  pub begins_long : length (begun x).tokens ≡ 16
   begins_long =
       length-append x.setting.start (replicate (16 - length x.setting.start) 0)
       ∙ omega (arith, length-replicate {A = ℕ} (16 - length x.setting.start) 0, start_long, few)
 
-  pub begins_beyond : drop n (begin_of (Ok x)).marking.tokens ≡ replicate (16 - n) 0
+  pub begins_beyond : drop n (begun x).tokens ≡ replicate (16 - n) 0
   begins_beyond = drop_at x.setting.start (replicate (16 - length x.setting.start) 0) n start_long ∙ ap (λ (k : ℕ). replicate (16 - k) 0) start_long
 
-  pub walk_reaches : (ts : List Transition) → Reachable net x.setting.start (take n (walked (Ok x) ts (begin_of (Ok x)).marking).tokens)
+  pub walk_reaches : (ts : List Transition) → Reachable net x.setting.start (take n (walked (Ok x) ts (begun x)).tokens)
   walk_reaches ts =
-      subst (λ z. Reachable net z (take n (walked (Ok x) ts (begin_of (Ok x)).marking).tokens)) begins_at (walk_leads ts (begin_of (Ok x)).marking begins_long).reached
+      subst (λ z. Reachable net z (take n (walked (Ok x) ts (begun x)).tokens)) begins_at (walk_leads ts (begun x) begins_long).reached
 
-  pub beyond_stays : (ts : List Transition) → drop n (walked (Ok x) ts (begin_of (Ok x)).marking).tokens ≡ replicate (16 - n) 0
-  beyond_stays ts = (walk_leads ts (begin_of (Ok x)).marking begins_long).beyond ∙ begins_beyond
+  pub beyond_stays : (ts : List Transition) → drop n (walked (Ok x) ts (begun x)).tokens ≡ replicate (16 - n) 0
+  beyond_stays ts = (walk_leads ts (begun x) begins_long).beyond ∙ begins_beyond
 
 -- Two walks, one after the other, are one walk.
 pub walked_on : (y : Read Contents) (ts us : List Transition) (m : Marking) → walked y (ts ++ us) m ≡ walked y us (walked y ts m)
@@ -153,7 +154,9 @@ walked_on y [] us m = refl
 walked_on y (t ∷ ts) us m = walked_on y ts us (step_of y t m).marking
 
 -- From begin and over any steps on one sheet, the marking is one that the net reaches from the sheet's start.
-pub sheet_walk : (s : List ℕ) (x : Contents) → IsSheet s → reading s ≡ Ok x → (ts : List Transition)
-    → Reachable x.setting.net x.setting.start (take x.setting.net.places (walked (reading s) ts (begin_of (reading s)).marking).tokens)
-sheet_walk s x small e ts =
-    subst (λ y. Reachable x.setting.net x.setting.start (take x.setting.net.places (walked y ts (begin_of y).marking).tokens)) (sym e) (walk_reaches x (formed s x small e) ts)
+pub sheet_walk : (s : List ℕ) (x : Contents) → IsSheet s → reading s ≡ Ok x → (m : Marking) → begin_of (reading s) ≡ Ok m → (ts : List Transition)
+    → Reachable x.setting.net x.setting.start (take x.setting.net.places (walked (reading s) ts m).tokens)
+sheet_walk s x small e m b ts =
+    let from : begun x ≡ m = sound_same (ap begin_of (sym e) ∙ b) in
+    subst (λ m. Reachable x.setting.net x.setting.start (take x.setting.net.places (walked (reading s) ts m).tokens)) from
+    (subst (λ y. Reachable x.setting.net x.setting.start (take x.setting.net.places (walked y ts (begun x)).tokens)) (sym e) (walk_reaches x (formed s x small e) ts))

@@ -5,13 +5,11 @@ use Rattle.refusals.specs.declared.Refusal.TheVariants.{NotATransition}
 use Rattle.terms.specs.declared.Transition.{Transition}
 use Rattle.nets.specs.Nets as nets
 use Rattle.nets.specs.HalfSpaces.{sixteen}
-use Rattle.format.specs.Read.{Read, choose}
+use Rattle.format.specs.Read.{Read, choose, map_ok}
 use Rattle.format.specs.Contents.{Contents}
 use Rattle.refusals.specs.Refusals.{Check}
 use Rattle.firing.specs.Firing.{lowest_short, lowest_over, fired_in}
 use Rattle.walk.specs.declared.Marking.{Marking}
-use Rattle.walk.specs.declared.Begun.{Begun}
-use Rattle.walk.specs.declared.Moved.{Moved}
 
 -- the first refusal of a list, in its order
 abbrev pub first : List Check → Check
@@ -26,6 +24,11 @@ no_such_transition net t = choose (among t.0 (length net.transitions)) (Ok tt) (
 -- what a firing is refused for, in order
 abbrev pub firing_checks : ℕ → nets.Transition → nets.Marking → List Check
 firing_checks n t m = lowest_short n t.taken m ∷ lowest_over n (nets.fire t m) ∷ []
+
+-- What a step answers, and the marking afterwards.
+pub record Moved : Type 0 where
+  pub answer : Check
+  pub marking : Marking
 
 -- A refusal changes no marking.
 abbrev pub moved_to : Check → List ℕ → Marking → Marking
@@ -51,10 +54,12 @@ abbrev pub step_of : Read Contents → Transition → Marking → Moved
 step_of (Err r) t m = record { answer = Err r; marking = m }
 step_of (Ok x) t m = step_in x.setting.net t m
 
--- A walk begins at the sheet's start, with zeros beyond n; a refusal has zeros.
-abbrev pub begin_of : Read Contents → Begun
-begin_of (Err r) = record { answer = Err r; marking = record { tokens = sixteen 0 [] } }
-begin_of (Ok x) = record { answer = (Ok tt); marking = record { tokens = sixteen 0 x.setting.start } }
+-- A walk begins at the sheet's start, with zeros beyond n.
+abbrev pub begun : Contents → Marking
+begun x = record { tokens = sixteen 0 x.setting.start }
+
+abbrev pub begin_of : Read Contents → Read Marking
+begin_of y = map_ok begun y
 
 -- Each step of a walk moves the marking on that the step before it left.
 unfoldable pub walked : Read Contents → List Transition → Marking → Marking

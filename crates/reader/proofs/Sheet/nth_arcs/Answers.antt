@@ -26,8 +26,8 @@ new-requires c =
     let whole = weights_whole s.bytes.now _ c.self.invariant.known c.args.number c.requires.0 few at c.behind_transitions-from.ensures.0 in
     (arcs s.bytes.now _ c.self.invariant.known c.self.invariant.bytes c.args.number c.requires.0 few at c.behind_transitions-from.ensures.0 _ _ (part_bytes s.bytes.now (at + 2) n _ (omega arith) (omega (arith, whole))) (part_bytes s.bytes.now (at + 2 + n) n _ (omega arith) whole)).0
 
-pub returns : goal.returns
-returns c =
+pub returns-clause-value : goal.returns-clause-value
+returns-clause-value c =
     let s = c.self.inside in
     let n = s.extent.places in
     let at = c.behind_transitions-from.result in

@@ -24,8 +24,8 @@ new-requires c =
     let fits : SFits w16 h.result.constant = search rules in
     (space s.bytes.now _ c.self.invariant.known c.self.invariant.bytes c.args.number c.requires.0 few c.behind_claims-at.result c.behind_claims-at.ensures.0 h.result.coefficients _ h.ensures.coefficients_value (to_z-of_z fits ∙ h.ensures.constant_value)).0
 
-pub returns : goal.returns
-returns c =
+pub returns-clause-value : goal.returns-clause-value
+returns-clause-value c =
     let s = c.self.inside in
     let h = c.numbers_at-numbers in
     let few : c.args.number ≤ s.claims = omega (arith, claims_count s.bytes.now _ c.self.invariant.known, ap (λ x. length x.claims) c.self.view_is) in
