@@ -30,7 +30,7 @@ use Rattle.firing.specs.Firing.{lowest, is_short, lowest_short, is_over, lowest_
 use Rattle.walk.specs.Walk.{first, no_such_transition, step_of, walked}
 use Rattle.walk.specs.declared.Marking.{Marking}
 use Rattle.traces.specs.Traces.{numbered, list_of}
-use Rattle.traces.specs.declared.Traced.{Traced}
+use Rattle.traces.specs.Traces.{Traced}
 use Rattle.traces.proofs.Lists.{steps}
 use Rattle.traces.proofs.Exactly.{Outcome, bad_sheet, too_long, at_step, outcome}
 use Rattle.traces.proofs.Exactly.{fine as fine-list}

@@ -19,7 +19,7 @@ use Rattle.judged.specs.declared.Judged.{Judged}
 use Rattle.twins.specs.declared.Reduced.{Reduced}
 use Rattle.twins.specs.declared.Twin.{Twin}
 use Rattle.twins.specs.declared.Twin.TheVariants as twin_answers
-use Rattle.traces.specs.declared.Traced.{Traced}
+use Rattle.traces.specs.Traces.{Traced}
 use Rattle.listing.specs.declared.Listed.{Listed}
 use Rattle.listing.specs.declared.Listed.TheVariants as listed
 use Rattle.numbers.specs.declared.Refused as refused

@@ -14,13 +14,13 @@ use Rattle.format.specs.Contents.{Contents}
 use Rattle.walk.specs.Walk.{walked, AllFine}
 use Rattle.walk.specs.declared.Marking.{Marking}
 use Rattle.walk.proofs.Exactly.{below_or_not}
-use Rattle.traces.specs.declared.Traced.{Traced}
+use Rattle.traces.specs.Traces.{Traced}
 use Rattle.traces.specs.Traces.{traced, steps_from, list_of}
 use Rattle.traces.proofs.Order.{long_refused, short_fired}
 use Rattle.traces.proofs.Lists.{steps, Stopped, Ended, all_fine, stopped, fires_all, stops_there, ended}
 
-read_not_refused : {x : Contents} {r : Refusal} → Ok x ≡ Err r → ⊥
-read_not_refused e = let z : ◌≡◌ {A = ℕ} 0 1 = cc in omega arith
+ok_not_refused : {A : Type 0} {a : A} {r : Refusal} → Ok a ≡ Err r → ⊥
+ok_not_refused e = let z : ◌≡◌ {A = ℕ} 0 1 = cc in omega arith
 
 -- An empty list tests no step and changes nothing.
 pub empty_fine : (x : Contents) (m : Marking) → list_of (Ok x) [] m ≡ traced 0 (Ok tt) m
@@ -61,9 +61,9 @@ module _ (list : List ℕ) (m : Marking) where
     fine_exactly = (λ e. only (outcome y) e, given)
       where
         only : Outcome y told → told.answer ≡ (Ok tt) → AsSteps
-        only (bad_sheet r s g) e = absurd (fine_not_refused (sym e ∙ answered g))
-        only (too_long x s h g) e = absurd (fine_not_refused (sym e ∙ answered g))
-        only (at_step x s h q before p g) e = absurd (fine_not_refused (sym e ∙ answered g))
+        only (bad_sheet r s g) e = absurd (ok_not_refused (sym e ∙ answered g))
+        only (too_long x s h g) e = absurd (ok_not_refused (sym e ∙ answered g))
+        only (at_step x s h q before p g) e = absurd (ok_not_refused (sym e ∙ answered g))
         only (fine x s h a g) e = record { contents = x; is_read = s; few = h; each_fine = a }
 
         given : AsSteps → told.answer ≡ (Ok tt)
@@ -83,7 +83,7 @@ module _ (list : List ℕ) (m : Marking) where
           by (bad_sheet q s g) = ap (λ (a : Traced). a.marking) g
           by (too_long x s h g) = ap (λ (a : Traced). a.marking) g
           by (at_step x s h q before p g) = ap (λ (a : Traced). a.marking) g
-          by (fine x s h a g) = absurd (fine_not_refused (sym (answered g) ∙ e))
+          by (fine x s h a g) = absurd (ok_not_refused (sym (answered g) ∙ e))
 
       abbrev NoneTried : Type 0
       NoneTried = ((q : Refusal) × (y ≡ Err q)) ⊎ (most_firings < length list)
@@ -98,11 +98,11 @@ module _ (list : List ℕ) (m : Marking) where
           only (bad_sheet q s g) z = inl (q, s)
           only (too_long x s h g) z = inr h
           only (at_step x s h q before p g) z = absurd (omega (arith, at g, z))
-          only (fine x s h a g) z = absurd (fine_not_refused (sym (answered g) ∙ e))
+          only (fine x s h a g) z = absurd (ok_not_refused (sym (answered g) ∙ e))
 
           given : Outcome y told → NoneTried → told.position ≡ 0
           given (bad_sheet q s g) t = at g
           given (too_long x s h g) t = at g
-          given (at_step x s h q before p g) (inl (u, b)) = absurd (read_not_refused (sym s ∙ b))
+          given (at_step x s h q before p g) (inl (u, b)) = absurd (ok_not_refused (sym s ∙ b))
           given (at_step x s h q before p g) (inr l) = absurd (omega (arith, h, l))
           given (fine x s h a g) t = at g

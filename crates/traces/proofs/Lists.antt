@@ -12,7 +12,7 @@ use Rattle.format.specs.Read.{Read}
 use Rattle.format.specs.Contents.{Contents}
 use Rattle.walk.specs.Walk.{step_of, walked, AllFine}
 use Rattle.walk.specs.declared.Marking.{Marking}
-use Rattle.traces.specs.declared.Traced.{Traced}
+use Rattle.traces.specs.Traces.{Traced}
 use Rattle.traces.specs.Traces.{traced, numbered, unless, steps_from, fired_list}
 
 abbrev pub steps : List ℕ → List Transition

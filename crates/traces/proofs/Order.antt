@@ -11,7 +11,7 @@ use Rattle.refusals.specs.declared.Refusal.TheVariants.{LongList}
 use Rattle.format.specs.Read.{Read, choose}
 use Rattle.format.specs.Contents.{Contents}
 use Rattle.walk.specs.declared.Marking.{Marking}
-use Rattle.traces.specs.declared.Traced.{Traced}
+use Rattle.traces.specs.Traces.{Traced}
 use Rattle.traces.specs.Traces.{traced, fired_list, list_of}
 
 module _ (y : Read Contents) (x : Contents) (is_read : y ≡ Ok x) (list : List ℕ) (m : Marking) where

@@ -13,7 +13,7 @@ use Rattle.firing.specs.Table.{StaysWithin}
 use Rattle.walk.specs.Walk.{walked}
 use Rattle.walk.specs.declared.Marking.{Marking}
 use Rattle.walk.proofs.Walks.{numbers, walk_ends, walk_follows}
-use Rattle.traces.specs.declared.Traced.{Traced}
+use Rattle.traces.specs.Traces.{Traced}
 use Rattle.traces.specs.Traces.{list_of}
 use Rattle.traces.proofs.Lists.{steps}
 use Rattle.traces.proofs.Exactly.{fine_exactly, fine_walked}

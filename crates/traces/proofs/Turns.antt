@@ -13,7 +13,7 @@ use Rattle.format.specs.Contents.{Contents}
 use Rattle.walk.specs.Walk.{step_of}
 use Rattle.walk.specs.declared.Marking.{Marking}
 use Rattle.walk.specs.Walk.{Moved}
-use Rattle.traces.specs.declared.Traced.{Traced}
+use Rattle.traces.specs.Traces.{Traced}
 use Rattle.traces.specs.Traces.{traced, numbered, unless, steps_from}
 
 -- m is the marking before the call, and i steps were fine
@@ -34,14 +34,15 @@ module _ (y : Read Contents) (m : Marking) (list : List ℕ) (i : ℕ) (held : M
   unfolding steps_from
   none_left h = ap (λ (ts : List ℕ). steps_from y m (i + 1) ts held) (drop_of_length-le list h)
 
-  module _ (s : Moved) (below : i < length list) (is : s ≡ step_of y (numbered (get_or list i 0)) held) where
-    pub goes_on : s.answer ≡ (Ok tt) → left ≡ steps_from y m (i + 1 + 1) (drop (i + 1) list) s.marking
-    goes_on e =
-        one_more below ∙ ap after (sym is)
-        ∙ ap (λ (q : Check). unless q (i + 1) m (steps_from y m (i + 1 + 1) (drop (i + 1) list) s.marking)) e
+  module _ (below : i < length list) where
+    abbrev s : Moved
+    s = step_of y (numbered (get_or list i 0)) held
 
-    pub stops : {r : Refusal} → s.answer ≡ Err r → left ≡ traced (i + 1) s.answer m
-    stops e =
-        one_more below ∙ ap after (sym is)
+    pub goes_on : (next : Marking) → s.answer ≡ Ok tt → next ≡ s.marking → left ≡ steps_from y m (i + 1 + 1) (drop (i + 1) list) next
+    goes_on next e is =
+        one_more below
         ∙ ap (λ (q : Check). unless q (i + 1) m (steps_from y m (i + 1 + 1) (drop (i + 1) list) s.marking)) e
-        ∙ ap (λ (q : Check). traced (i + 1) q m) (sym e)
+        ∙ ap (steps_from y m (i + 1 + 1) (drop (i + 1) list)) (sym is)
+
+    pub stops : {r : Refusal} → s.answer ≡ Err r → left ≡ traced (i + 1) (Err r) m
+    stops e = one_more below ∙ ap (λ (q : Check). unless q (i + 1) m (steps_from y m (i + 1 + 1) (drop (i + 1) list) s.marking)) e

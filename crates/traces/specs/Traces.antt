@@ -1,5 +1,5 @@
 -- A list of transitions fired in one call: 02, req 01.
-use Rattle.std.specs.Prelude.{List, [], ◌∷◌, ℕ, ◌+◌, leb, length, Err, Ok}
+use Rattle.std.specs.Prelude.{List, [], ◌∷◌, ℕ, ◌+◌, leb, length, Err, Ok, Result}
 use Rattle.terms.specs.Limits.{most_firings}
 use Rattle.refusals.specs.declared.Refusal.TheVariants.{LongList}
 use Rattle.terms.specs.declared.Transition.{Transition}
@@ -8,9 +8,14 @@ use Rattle.format.specs.Contents.{Contents}
 use Rattle.refusals.specs.Refusals.{Check}
 use Rattle.walk.specs.Walk.{step_of}
 use Rattle.walk.specs.declared.Marking.{Marking}
-use Rattle.traces.specs.declared.Traced.{Traced}
+use Rattle.traces.specs.declared.Halt.{Halt}
 
 -- an answer at a position, and the marking that goes with it
+pub record Traced : Type 0 where
+  pub position : ℕ
+  pub answer : Check
+  pub marking : Marking
+
 abbrev pub traced : ℕ → Check → Marking → Traced
 traced position answer m = record { position = position; answer = answer; marking = m }
 
@@ -35,3 +40,11 @@ fired_list y list m = steps_from y m 1 list m
 abbrev pub list_of : Read Contents → List ℕ → Marking → Traced
 list_of (Err r) list m = traced 0 (Err r) m
 list_of (Ok x) list m = choose (leb (length list) most_firings) (fired_list (Ok x) list m) (traced 0 (Err (LongList (length list))) m)
+
+-- where the list stopped, if it did
+abbrev pub halted_at : ℕ → Check → Result (Unit {0}) Halt
+halted_at position (Ok u) = Ok tt
+halted_at position (Err r) = Err (record { position = position; refusal = r })
+
+abbrev pub halted : Traced → Result (Unit {0}) Halt
+halted a = halted_at a.position a.answer

@@ -1,70 +1,61 @@
 // A list fired in one call: 02, req 01. A worker's trace is pasted whole, and moves the marking as its single steps would.
 #![tactic(auto)]
 
-ghost use Rattle.std.specs.Prelude.{◌≡◌};
+ghost use Rattle.std.specs.Prelude.{◌≡◌, Ok};
 ghost use Rattle.format.specs.Reading.{reading};
-ghost use Rattle.known.specs.Known.{Known};
-ghost use Rattle.traces.specs.Traces.{fired_list, list_of};
+ghost use Rattle.traces.specs.Traces.{fired_list, list_of, halted};
 
-use reader::{Counts, Reading, read};
-use refusals::{Check, Refusal};
+use reader::Sheet;
+use refusals::Refusal;
 use terms::{Firings, Transition};
 use walk::{Marking, step_in};
 
-// The position is that of the refused step, counted from 1, and 0 where no step was refused.
-#[derive(Clone, Copy)]
-pub struct Traced {
+// Where a list stopped, and why. The position is that of the refused step, counted from 1, and 0 where no step was tried.
+#[derive(Clone, Copy, Debug, PartialEq, Eq)]
+pub struct Halt {
     pub position: usize,
-    pub answer: Check,
-    pub marking: Marking,
+    pub refusal: Refusal,
+}
+
+impl From<Refusal> for Halt {
+    ghost use Rattle.std.specs.Prelude.{◌≡◌};
+
+    ghost from_gives = { λ refusal halt. halt ≡ record { position = 0; refusal = refusal } };
+
+    fn from(refusal: Refusal) -> Halt {
+        Halt {
+            position: 0,
+            refusal,
+        }
+    }
 }
 
 // The steps of a list, on a sheet that was read.
-fn fired_in(m: Marking, sheet: &[u8], counts: Counts, list: &[usize]) -> Traced
-    requires { Known sheet.now counts }
-    ensures { result ≡ fired_list (reading sheet.now) list.now m }
+fn fire_all(m: &mut Marking, sheet: &Sheet<'_>, list: &[usize]) -> Result<(), Halt>
+    ensures value { result ≡ halted (fired_list (Ok sheet.now) list.now m.old) }
+    ensures marking { m.new ≡ (fired_list (Ok sheet.now) list.now m.old).marking }
 {
-    let mut tokens = m.tokens;
-    for i in 0..list.len() {
-        let number = list[i];
-        let held = Marking { tokens };
-        let moved = step_in(held, sheet, counts, Transition(number));
-        let answer = moved.answer;
-        let Check::Fine = answer else {
-            let position = i + 1;
-            return Traced {
-                position,
-                answer,
-                marking: m,
-            };
-        };
-        tokens = moved.marking.tokens;
+    let before = *m;
+    for (i, number) in list.iter().enumerate() {
+        if let Err(refusal) = step_in(m, sheet, Transition(*number)) {
+            *m = before;
+            return Err(Halt {
+                position: i + 1,
+                refusal,
+            });
+        }
     }
-    Traced {
-        position: 0,
-        answer: Check::Fine,
-        marking: Marking { tokens },
-    }
+    Ok(())
 }
 
-// The list by value: the marking as it is afterwards, and as it was where the call is refused.
-pub fn fire_list(m: Marking, sheet: &[u8], list: &[usize]) -> Traced
-    ensures { result ≡ list_of (reading sheet.now) list.now m }
+// Fires a list: the marking is lent, and moved on by the whole list. It stays as it was where the call is refused.
+pub fn fire_list(m: &mut Marking, bytes: &[u8], list: &[usize]) -> Result<(), Halt>
+    ensures value { result ≡ halted (list_of (reading bytes.now) list.now m.old) }
+    ensures marking { m.new ≡ (list_of (reading bytes.now) list.now m.old).marking }
 {
-    let answer = read(sheet);
-    let Reading::Sound(counts) = answer else {
-        return Traced {
-            position: 0,
-            answer: answer.check(),
-            marking: m,
-        };
-    };
+    let sheet = Sheet::read(bytes)?;
     if list.len() > Firings::MOST {
-        return Traced {
-            position: 0,
-            answer: Check::Refused(Refusal::long_list(list.len())),
-            marking: m,
-        };
+        return Err(Halt::from(Refusal::LongList(list.len())));
     }
-    fired_in(m, sheet, counts, list)
+    fire_all(m, &sheet, list)
 }
