@@ -1,14 +1,13 @@
 -- Counts put back at their places one by one: what was put back and what is still to be put back add up.
 use mathlib.Core.Path.{◌≡◌, refl, ap}
+use mathlib.Core.Logic.{◌⊎◌, inl, inr}
 use mathlib.Core.List.{List, [], ◌∷◌, map}
 use Prim.Native.Nat.{ℕ, zero, suc, ◌+◌, ◌*◌, ◌≤◌, ◌<◌}
-use native.Mathlib.Numerals.{add-one}
 use native.Mathlib.Omega.{arith}
-use lib.ListN.{length, get_or, set, drop, replicate, drop_of_length-le}
-use lib.Seq.{drop-cons}
+use lib.ListN.{length, get_or, set, replicate, length-set}
 use Rattle.sums.specs.Sum.{total, dot}
 use Rattle.sums.proofs.Sums.{part, dot_zeros, total_zeros}
-use Rattle.distinct.specs.Row.{Spread}
+use Rattle.distinct.specs.Row.{Inside, Spread}
 
 -- the counts with a more at a place
 abbrev pub more : List ℕ → ℕ → ℕ → List ℕ
@@ -40,42 +39,49 @@ total_none = refl
 abbrev pub at : List ℕ → List ℕ → List ℕ
 at f ps = map (λ (p : ℕ). get_or f p 0) ps
 
--- the counts from i on are still to be put back
-pub record Rest (ps y x : List ℕ) (i : ℕ) : Type 0 where
-  pub sums : (f : List ℕ) → dot f x + dot (at f (drop i ps)) (drop i y) ≡ dot (at f ps) y
-  pub amount : total x + total (drop i y) ≡ total y
+-- the counts y' are still to be put back, at the places ps'
+pub record Rest (ps y x ps' y' : List ℕ) : Type 0 where
+  pub places : length ps' ≡ length y'
+  pub inside : Inside ps' (length x)
+  pub sums : (f : List ℕ) → dot f x + dot (at f ps') y' ≡ dot (at f ps) y
+  pub amount : total x + total y' ≡ total y
 
-pub rest_start : (ps y x : List ℕ) → x ≡ replicate (length x) 0 → Rest ps y x 0
-rest_start ps y x e =
+pub rest_start : (ps y x ps' y' : List ℕ) → ps' ≡ ps → y' ≡ y → length ps ≡ length y → Inside ps (length x) → x ≡ replicate (length x) 0 → Rest ps y x ps' y'
+rest_start ps y x ps' y' s t l i e =
+    rw (s, t)
     record {
+      places = l;
+      inside = i;
       sums = λ f. omega (arith, ap (dot f) e, dot_zeros f (length x));
       amount = omega (arith, ap total e, total_zeros (length x));
     }
 
-dot_first : (f ps y : List ℕ) (i : ℕ) → i < length ps → i < length y → dot (at f (drop i ps)) (drop i y) ≡ get_or f (get_or ps i 0) 0 * get_or y i 0 + dot (at f (drop (suc i) ps)) (drop (suc i) y)
-unfolding dot
-dot_first f ps y i h k = rw (drop-cons ps i 0 h, drop-cons y i 0 k)
+-- the next count, a, goes to place p
+module _ (ps y x qs zs ps' y' : List ℕ) (q p a : ℕ) (s : qs ≡ q ∷ ps') (t : zs ≡ a ∷ y') (e : p ≡ q) (o : Rest ps y x qs zs) where
+  r : Rest ps y x (p ∷ ps') (a ∷ y')
+  r = rw e (rw (s, t) at o)
 
-total_first : (y : List ℕ) (i : ℕ) → i < length y → total (drop i y) ≡ get_or y i 0 + total (drop (suc i) y)
-unfolding total
-total_first y i k = rw (drop-cons y i 0 k)
+  pub there : p < length x
+  there = r.inside 0 (omega arith)
 
-pub rest_step : (ps y x : List ℕ) (i p : ℕ) → i < length ps → i < length y → p ≡ get_or ps i 0 → p < length x → Rest ps y x i → Rest ps y (more x p (get_or y i 0)) (i + 1)
-rest_step ps y x i p h k e l r =
-    rw (add-one i)
-    record {
-      sums = λ f. omega (arith, dot_plus f x p (get_or y i 0) l, dot_first f ps y i h k, r.sums f, ap (λ (q : ℕ). get_or f q 0 * get_or y i 0) e);
-      amount = omega (arith, total_plus x p (get_or y i 0) l, total_first y i k, r.amount);
-    }
+  pub rest_step : Rest ps y (more x p a) ps' y'
+  unfolding dot total
+  rest_step =
+      record {
+        places = omega (arith, r.places);
+        inside = λ i l. rw (length-set x p (get_or x p 0 + a)) (r.inside (suc i) (omega arith));
+        sums = λ f. omega (arith, dot_plus f x p a there, r.sums f);
+        amount = omega (arith, total_plus x p a there, r.amount);
+      }
 
--- no more than the total is at any place, with what is to come
-pub rest_room : (ps y x : List ℕ) (i p : ℕ) → i < length y → Rest ps y x i → get_or x p 0 + get_or y i 0 ≤ total y
-rest_room ps y x i p k r = omega (arith, total_first y i k, r.amount, part x p)
+  -- no more than the total is at any place, with what is to come
+  pub rest_room : get_or x p 0 + a ≤ total y
+  unfolding total
+  rest_room = omega (arith, r.amount, part x p)
 
-pub rest_end : (ps y x : List ℕ) (i : ℕ) → length y ≤ i → Rest ps y x i → Spread ps y x
-rest_end ps y x i h r =
-    let e = drop_of_length-le y h in
-    record {
-      sums = λ f. omega (arith, r.sums f, ap (dot (at f (drop i ps))) e, dot_none (at f (drop i ps)));
-      amount = omega (arith, r.amount, ap total e, total_none);
-    }
+pub rest_end : (ps y x ps' y' : List ℕ) → (length ps' ≡ 0) ⊎ (length y' ≡ 0) → Rest ps y x ps' y' → Spread ps y x
+rest_end ps y x [] [] h r = record { sums = λ f. omega (arith, r.sums f, dot_none []); amount = omega (arith, r.amount, total_none) }
+rest_end ps y x [] (a ∷ y') h r = absurd (omega (arith, r.places))
+rest_end ps y x (p ∷ ps') [] h r = absurd (omega (arith, r.places))
+rest_end ps y x (p ∷ ps') (a ∷ y') (inl e) r = absurd (omega arith)
+rest_end ps y x (p ∷ ps') (a ∷ y') (inr e) r = absurd (omega arith)

@@ -1,5 +1,5 @@
 -- The row that is searched: each coefficient once and none of 0, with a place where it stands.
-use Rattle.std.specs.Prelude.{◌≡◌, ◌⊎◌, Bool, true, false, List, map, ℕ, ◌≤◌, ◌<◌, length, get_or, ℤ, pos}
+use Rattle.std.specs.Prelude.{◌≡◌, ◌⊎◌, List, map, ℕ, ◌≤◌, ◌<◌, length, get_or, ℤ, pos}
 use Rattle.sums.specs.Sum.{total, dot}
 
 -- c is one of the first n
@@ -7,10 +7,6 @@ pub record Among (row : List ℤ) (n : ℕ) (c : ℤ) : Type 0 where
   pub at : ℕ
   pub below : at < n
   pub is : get_or row at (pos 0) ≡ c
-
-abbrev pub Known : List ℤ → ℤ → Bool → Type 0
-Known row c true = Among row (length row) c
-Known row c false = Among row (length row) c → ⊥
 
 -- the first n of the row stand for the first p coefficients: each is the coefficient of its place, and each coefficient is 0 or one of them
 pub record Kept (ks row : List ℤ) (places : List ℕ) (n p : ℕ) : Type 0 where

@@ -1,36 +1,28 @@
-// The answer of a call that judges a half space, and what it says.
+// The verdict on a half space, as calls answer it.
 #![tactic(auto)]
 
 ghost use Rattle.std.specs.Prelude.{◌≡◌};
-ghost use Rattle.judged.specs.Judges.{plain_judged};
+ghost use Rattle.judged.specs.Judges.{marking_of};
 
-use refusals::Refusal;
 use terms::{Place, Transition};
 
-// The four verdicts in their order, or a refusal. Broken names the lowest transition that breaks the claim.
-#[derive(Clone, Copy)]
-pub enum Answer {
+// The four verdicts in their order. Broken names the lowest transition that breaks the claim, with a bad marking for it.
+#[derive(Clone, Copy, Debug, PartialEq, Eq)]
+pub enum Verdict {
     StartOutside,
     TargetInside,
-    Broken(Transition),
+    Broken(Transition, [u16; Place::MOST]),
     Proof,
-    Refused(Refusal),
 }
 
-// The marking is bad where the answer is Broken, and zeros elsewhere.
-#[derive(Clone, Copy)]
-pub struct Judged {
-    pub answer: Answer,
-    pub marking: [u16; Place::MOST],
-}
-
-impl Judged {
-    pub fn plain(answer: Answer) -> Judged
-        ensures { result ≡ plain_judged answer }
+impl Verdict {
+    // The bad marking, or zeros where there is none to show.
+    pub fn marking(self) -> [u16; Place::MOST]
+        ensures { result ≡ marking_of self }
     {
-        Judged {
-            answer,
-            marking: [0u16; Place::MOST],
+        match self {
+            Verdict::Broken(_, marking) => marking,
+            Verdict::StartOutside | Verdict::TargetInside | Verdict::Proof => [0u16; Place::MOST],
         }
     }
 }

@@ -15,8 +15,5 @@ part_long n y old e l = e ∙ length-take-le n old l
 pub lent_length : (n : ℕ) (y old : List ℕ) → length y ≡ length (take n old) → n ≤ length old → length (y ++ drop n old) ≡ length old
 lent_length n y old e l = omega (arith, part_long n y old e l, length-append y (drop n old), length-drop n old)
 
-pub lent_enough : (n : ℕ) (y old : List ℕ) → length y ≡ length (take n old) → n ≤ length old → n ≤ length (y ++ drop n old)
-lent_enough n y old e l = omega (arith, lent_length n y old e l)
-
 pub lent_wiped : (n : ℕ) (y old new : List ℕ) → length y ≡ length (take n old) → n ≤ length old → Wiped n (y ++ drop n old) new → Wiped n old new
 lent_wiped n y old new e l w = w ∙ ap (λ (m : List ℕ). replicate n 0 ++ m) (drop_at y (drop n old) n (part_long n y old e l))

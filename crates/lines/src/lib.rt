@@ -1,42 +1,42 @@
 // The line of a claim.
 #![tactic(auto)]
 
-ghost use Rattle.std.specs.Prelude.{◌+◌, ◌≤◌, ◌<◌, length, take};
-ghost use Rattle.text.specs.Bytes.{Wrote};
+ghost use Rattle.std.specs.Prelude.{◌+◌, ◌≤◌, ◌<◌, IfSome};
+ghost use Rattle.text.specs.Writing.{Puts, HasRoom};
 ghost use Rattle.lines.specs.Lines.{answer_text, answer_line, Brief};
 
-use judged::{Answer, Judged};
-use phrases::{tokens, twin};
-use text::{labelled, put};
+use judged::Verdict;
+use phrases::{put_tokens, put_twin};
+use terms::Claim;
+use text::Writer;
 
-// The verdict, in words; broken with the transition and the tokens.
-fn verdict(text: &mut [u8], at: usize, judged: Judged, n: usize) -> usize
-    requires { (n ≤ 16) × (at + 105 ≤ length text.old) × Brief judged.answer }
-    ensures { Wrote (answer_text judged.answer (take n judged.marking)) text.old at text.new result × (result ≤ at + 105) }
+// The verdict, in words; broken with the transition and the tokens of the n places.
+#[tactic(auto, using(phrases::proofs::Texts::two_digits))]
+fn put_verdict(writer: &mut Writer, verdict: Verdict, n: usize)
+    requires { (n ≤ 16) × HasRoom 105 writer.old × Brief verdict }
+    ensures { Puts (answer_text verdict n) writer.old writer.new × (writer.new.len ≤ writer.old.len + 105) }
 {
-    let answer = judged.answer;
-    let marking = judged.marking;
-    match answer {
-        Answer::StartOutside => put(text, at, b"start-outside"),
-        Answer::TargetInside => put(text, at, b"target-inside"),
-        Answer::Broken(t) => {
-            let end = labelled(text, at, b"broken ", t.0);
-            tokens(text, end, marking, n)
+    match verdict {
+        Verdict::StartOutside => writer.put(b"start-outside"),
+        Verdict::TargetInside => writer.put(b"target-inside"),
+        Verdict::Broken(t, marking) => {
+            writer.put_labelled(b"broken ", t.0);
+            put_tokens(writer, &marking[..n]);
         }
-        Answer::Proof => put(text, at, b"proof"),
-        // The type has this case for `verdict_of`; a claim that is listed was judged, and is never refused.
-        Answer::Refused(_) => at,
+        Verdict::Proof => writer.put(b"proof"),
     }
 }
 
-pub fn claim_line(text: &mut [u8], at: usize, i: usize, judged: Judged, j: usize, n: usize) -> usize
-    requires n_bound { (n ≤ 16) × (i < 100) × (j < 100) × Brief judged.answer }
-    requires at_in_bounds { at + 125 ≤ length text.old }
-    ensures { Wrote (answer_line i judged.answer (take n judged.marking) j) text.old at text.new result × (result ≤ at + 125) }
+// The claim's number, its verdict, and its lowest earlier twin if there is one.
+#[tactic(auto, using(phrases::proofs::Texts::two_digits))]
+pub fn put_claim(writer: &mut Writer, claim: Claim, verdict: Verdict, twin: Option<Claim>, n: usize)
+    requires brief { (n ≤ 16) × (claim.0 < 100) × Brief verdict × IfSome twin (λ earlier. earlier.0 < 100) }
+    requires room { HasRoom 125 writer.old }
+    ensures { Puts (answer_line claim.0 verdict twin n) writer.old writer.new × (writer.new.len ≤ writer.old.len + 125) }
 {
-    let claim = labelled(text, at, b"claim ", i);
-    let space = put(text, claim, b" ");
-    let words = verdict(text, space, judged, n);
-    let end = twin(text, words, j);
-    put(text, end, b"\n")
+    writer.put_labelled(b"claim ", claim.0);
+    writer.put(b" ");
+    put_verdict(writer, verdict, n);
+    put_twin(writer, twin);
+    writer.put(b"\n");
 }

@@ -2,18 +2,17 @@
 use mathlib.Core.Path.{◌≡◌, refl, sym, ap, ◌∙◌, subst}
 use mathlib.Core.Logic.{inl, inr}
 use mathlib.Core.List.{List, [], ◌∷◌, ◌++◌}
-use Prim.Native.Nat.{ℕ, zero, suc, ◌*◌, ◌/◌, ◌∣◌, ◌≤◌, ◌<◌, ◌^◌}
+use Prim.Native.Nat.{ℕ, zero, suc, ◌*◌, ◌/◌, ◌∣◌, ◌<◌}
 use native.Mathlib.Nat.{dvd_trans, dvd-zero, dvd-mul_left, dvd_refl, le_of_dvd, eq-zero_of_zero-dvd, mul-div_cancel'}
 use native.Mathlib.Omega.{arith}
 use lib.ListN.{length, get_or}
 use lib.IntN.{ℤ, pos, negsuc, neg_ℤ, nat_abs, ◌*ℤ◌}
-use mir.Syntax.{Width}
-use mir.Val.{SFits, hbits}
-use Rattle.signed.specs.Parts.{positive_part-mul, negative_part-mul, positive_part-neg, negative_part-neg, abs_parts, eq_out, sfits_in}
+use Rattle.signed.specs.Parts.{positive_part-mul, negative_part-mul, positive_part-neg, negative_part-neg, abs_parts, eq_out}
 use Rattle.signed.specs.Linear.{linear}
 use Rattle.nets.specs.HalfSpaces.{HalfSpace}
 use Rattle.nets.specs.Reduced.{EachOf, Divides, divided_by, AllZero}
-use Rattle.reduction.specs.Divisors.{IsGcd, IsCommon, IsDivisorOf}
+use Rattle.std.specs.Int.{IsGcd}
+use Rattle.reduction.specs.Divisors.{IsCommon, IsDivisorOf}
 use Rattle.reduction.proofs.Remainders.{some_gcd}
 
 -- a number divides a signed one exactly if it divides its size
@@ -30,10 +29,6 @@ size_divides d (pos n) h = (pos (n / d), eq_out (omega (arith, positive_part-mul
 size_divides d (negsuc n) h =
     let q = neg_ℤ (pos (suc n / d)) in
     (q, eq_out (omega (arith, positive_part-mul q d, negative_part-mul q d, ap (λ (x : ℕ). x * d) (positive_part-neg (pos (suc n / d))), ap (λ (x : ℕ). x * d) (negative_part-neg (pos (suc n / d))), mul-div_cancel' d h)))
-
--- the size of what fits
-pub size_within : (w : Width) (z : ℤ) → SFits w z → nat_abs z ≤ 2 ^ hbits w
-size_within w z f = omega (arith, abs_parts z, sfits_in f)
 
 -- of each
 pub each_so : {F G : ℤ → Type 0} → ((z : ℤ) → F z → G z) → (zs : List ℤ) → EachOf F zs → EachOf G zs
@@ -74,8 +69,8 @@ common_one z = record { common = (size_divides (nat_abs z) z (dvd_refl (nat_abs 
 common_both : (xs ys : List ℤ) (a b g : ℕ) → IsCommon xs a → IsCommon ys b → IsGcd a b g → IsCommon (xs ++ ys) g
 common_both xs ys a b g p q h =
     record {
-      common = each_append (Divides g) xs ys (each_so (λ z d. size_divides g z (dvd_trans g h.left (divides_size a z d))) xs p.common) (each_so (λ z d. size_divides g z (dvd_trans g h.right (divides_size b z d))) ys q.common);
-      greatest = λ e k. h.greatest e (p.greatest e (each_left (Divides e) xs ys k)) (q.greatest e (each_right (Divides e) xs ys k));
+      common = each_append (Divides g) xs ys (each_so (λ z d. size_divides g z (dvd_trans g h.0 (divides_size a z d))) xs p.common) (each_so (λ z d. size_divides g z (dvd_trans g h.1 (divides_size b z d))) ys q.common);
+      greatest = λ e k. h.2 e (p.greatest e (each_left (Divides e) xs ys k)) (q.greatest e (each_right (Divides e) xs ys k));
     }
 
 pub common_more : (zs : List ℤ) (z : ℤ) (a g : ℕ) → IsCommon zs a → IsGcd a (nat_abs z) g → IsCommon (zs ++ (z ∷ [])) g

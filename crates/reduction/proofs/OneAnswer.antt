@@ -3,7 +3,8 @@ use mathlib.Core.Path.{◌≡◌, sym, ap, ap₂, ◌∙◌}
 use mathlib.Core.Logic.{inl, inr}
 use mathlib.Core.List.{List}
 use Prim.Native.Nat.{ℕ}
-use native.Mathlib.Nat.{dvd_antisymm}
+use Rattle.std.specs.Int.{IsGcd}
+use Rattle.std.proofs.lemmas.Nat.Gcd.{same_from_IsGcd}
 use native.Mathlib.Omega.{arith}
 use lib.IntN.{ℤ, pos}
 use lib.ListN.{take}
@@ -11,11 +12,11 @@ use Rattle.nets.specs.HalfSpaces.{HalfSpace, sixteen}
 use Rattle.nets.specs.Reduced.{IsReduced}
 use Rattle.nets.proofs.ReducedForm.{one_reduced_form}
 use Rattle.reduction.specs.declared.Form.{Form}
-use Rattle.reduction.specs.Divisors.{IsGcd, IsDivisorOf, space_of}
+use Rattle.reduction.specs.Divisors.{IsDivisorOf, space_of}
 
 -- divisors
 pub one_gcd : (a b g h : ℕ) → IsGcd a b g → IsGcd a b h → g ≡ h
-one_gcd a b g h p q = dvd_antisymm (q.greatest g p.left p.right) (p.greatest h q.left q.right)
+one_gcd = same_from_IsGcd
 
 pub one_divisor : (h : HalfSpace) (d e : ℕ) → IsDivisorOf h d → IsDivisorOf h e → d ≡ e
 unfolding IsDivisorOf

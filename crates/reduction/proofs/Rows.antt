@@ -5,12 +5,11 @@ use Prim.Native.Nat.{ℕ, suc, ◌+◌, ◌-◌, ◌≤◌, ◌<◌}
 use native.Mathlib.Numerals.{add-one}
 use native.Mathlib.Omega.{arith}
 use lib.IntN.{ℤ, pos, ◌*ℤ◌}
-use lib.ListN.{length, get_or, take, drop, set, replicate, take-append-drop, length-set}
-use lib.Seq.{take-suc, take-suc-set, drop-set-lt, drop-drop, length-take-le}
+use lib.ListN.{length, get_or, take, drop, set, replicate, length-set}
+use lib.Seq.{take-suc, take-suc-set, drop-set-lt, drop-drop}
 use mir.Syntax.{Width}
 use mir.Val.{SFits}
 use Rattle.signed.specs.Divide.{quot_fits, quot_exact}
-use Rattle.nets.specs.HalfSpaces.{sixteen}
 use Rattle.reduction.proofs.Scaled.{times}
 
 pub row_more : (k : List ℤ) (p : ℕ) → p < length k → take (p + 1) k ≡ take p k ++ (get_or k p (pos 0) ∷ [])
@@ -44,9 +43,3 @@ divided_more k g row p q l m d e =
   where
     fewer : (p : ℕ) → p < 16 → 16 - p ≡ suc (16 - (p + 1))
     fewer p l = omega arith
-
-pub divided_all : (k : List ℤ) (g : ℕ) (row : List ℤ) (n : ℕ) → n ≤ 16 → Divided k g row n → row ≡ sixteen (pos 0) (take n row)
-divided_all k g row n l d =
-    sym (take-append-drop n row)
-    ∙ ap (λ (b : List ℤ). take n row ++ b) d.behind
-    ∙ ap (λ (m : ℕ). take n row ++ replicate (16 - m) (pos 0)) (sym (length-take-le n row (omega (arith, d.long))))

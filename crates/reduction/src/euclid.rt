@@ -1,40 +1,27 @@
 // Greatest common divisors, by Euclid's rule: document 01, "Half spaces and verdicts".
-ghost use Rattle.std.specs.Prelude.{◌≡◌, ◌≤◌, take};
-ghost use Rattle.reduction.specs.Divisors.{IsGcd, IsCommon, IsDivisorOf, space_of};
+ghost use Rattle.std.specs.Int.{IsGcd};
+ghost use Rattle.reduction.specs.Divisors.{IsCommon, IsDivisorOf};
 
-use terms::{Place, size};
-
-// A coefficient, as wide as a constant.
-pub fn wide(z: i8) -> i16
-    ensures { result ≡ z }
-{
-    z as i16
-}
-
-fn gcd(a: u32, b: u32) -> u32
+fn gcd(a: u16, b: u16) -> u16
     ensures { IsGcd a b result }
 {
     if b == 0 { a } else { gcd(b, a % b) }
 }
 
-// The divisor of the first n coefficients.
-fn row_divisor(k: [i8; Place::MOST], n: usize) -> u32
-    requires { n ≤ 16 }
-    ensures { IsCommon (take n k) result × (result ≤ 32768) }
+// The divisor of the coefficients.
+fn row_divisor(k: &[i8]) -> u16
+    ensures { IsCommon k.now result }
 {
-    let mut g: u32 = 0;
-    for p in 0..n {
-        let z = k[p];
-        g = gcd(size(wide(z)), g);
+    let mut g = 0;
+    for z in k {
+        g = gcd(u16::from(z.unsigned_abs()), g);
     }
     g
 }
 
 // The divisor of a claim: of its coefficients, then of that and the constant; 0 where all are zero.
-pub(crate) fn divisor(k: [i8; Place::MOST], n: usize, c: i16) -> u32
-    requires { n ≤ 16 }
-    ensures { IsDivisorOf (space_of n k c) result × (result ≤ 32768) }
+pub(crate) fn divisor(k: &[i8], c: i16) -> u16
+    ensures { IsDivisorOf (record { coefficients = k.now; constant = c }) result }
 {
-    let g = row_divisor(k, n);
-    gcd(size(c), g)
+    gcd(c.unsigned_abs(), row_divisor(k))
 }

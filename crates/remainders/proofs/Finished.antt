@@ -1,11 +1,11 @@
 -- A finished table is exact: its length is one of the sizes, so that it can be added to what is reached.
 use mathlib.Core.Path.{◌≡◌, refl, ap}
-use mathlib.Core.List.{List, [], ◌∷◌, ◌++◌}
+use mathlib.Core.List.{List, [], ◌∷◌}
 use Prim.Native.Nat.{ℕ, zero, suc, ◌+◌, ◌*◌, ◌-◌, ◌/◌, ◌%◌, ◌≤◌, ◌<◌}
 use native.Mathlib.Nat.{mod-lt, div-add-mod', mul-le-mul_right}
 use native.Mathlib.Decide.{dec_lt}
 use native.Mathlib.Omega.{arith}
-use lib.ListN.{length, get_or, get_or-append}
+use lib.ListN.{get_or}
 use Rattle.remainders.specs.Sums.{Reached, Exact}
 use Rattle.remainders.specs.Steps.{Over, Sound, Tabled}
 
@@ -45,23 +45,17 @@ apart_by a d v some l e = go (dec_lt (v / a) (d / a))
         let f : v / a ≡ d / a + m = omega arith in
         (m, omega (arith, x, y, ap (λ (q : ℕ). q * a) f))
 
-pub finished : (a p : ℕ) (ss T rest : List ℕ) → 0 < a → length T ≡ a → get_or ss p 0 ≡ a → Tabled a ss T → Exact ss a (T ++ rest)
+pub finished : (a p : ℕ) (ss T : List ℕ) → 0 < a → get_or ss p 0 ≡ a → Tabled a ss T → Exact ss a T
 unfolding Sound
-finished a p ss T rest some long one t = record { exactly = λ v b. (to v, from v b) }
+finished a p ss T some one t = record { exactly = λ v b. ((λ r. t.all v (over-reached a ss v r)), from v b) }
   where
-    at : (v : ℕ) → get_or (T ++ rest) (v % a) 0 ≡ get_or T (v % a) 0
-    at v = get_or-append T rest 0 (v % a) (omega (arith, mod-lt v some))
-
-    to : (v : ℕ) → Reached ss v → get_or (T ++ rest) (v % a) 0 ≤ v
-    to v r = omega (arith, at v, t.all v (over-reached a ss v r))
-
     reached_with : (d v : ℕ) → ((w : ℕ) × (m : ℕ) × Reached ss w × (d ≡ m * a + w)) → ((n : ℕ) × (v ≡ n * a + d)) → Reached ss v
     reached_with d v (w, m, r, e) (n, f) =
         let g : v ≡ (n + m) * a + w = omega arith in
         rw (g, ← one) (more ss p (n + m) w r)
 
-    from : (v : ℕ) → v ≤ 5000 → get_or (T ++ rest) (v % a) 0 ≤ v → Reached ss v
+    from : (v : ℕ) → v ≤ 5000 → get_or T (v % a) 0 ≤ v → Reached ss v
     from v b l =
         let d : ℕ = get_or T (v % a) 0 in
-        let s = t.sound (v % a) (mod-lt v some) (omega (arith, at v)) in
-        reached_with d v (reached-over a ss d s.1) (apart_by a d v some (omega (arith, at v)) s.0)
+        let s = t.sound (v % a) (mod-lt v some) (omega arith) in
+        reached_with d v (reached-over a ss d s.1) (apart_by a d v some l s.0)

@@ -1,21 +1,14 @@
 // The table of remainders: entry r is the least value with remainder r that sums of the sizes reach. Its length a is one of the sizes.
 #![tactic(auto)]
 
-ghost use Rattle.std.specs.Prelude.{◌≡◌, List, ◌∷◌, ℕ, ◌+◌, ◌%◌, ◌≤◌, ◌<◌, nat_abs, length, get_or};
+ghost use Rattle.std.specs.Prelude.{◌≡◌, List, ◌∷◌, ℕ, ◌+◌, ◌%◌, ◌≤◌, ◌<◌, length, get_or};
 ghost use Rattle.remainders.specs.Sums.{sizes};
 ghost use Rattle.remainders.specs.Steps.{Blank, Closed, Ready, Swept, Tabled};
 
 use amounts::Constant;
-use terms::{size, wide16};
 
 // One more than the largest constant: no window asks for a value of that size.
 const FAR: u16 = Constant::MOST as u16 + 1;
-
-pub fn size_of(k: i8) -> usize
-    ensures { (result ≡ nat_abs k) × (result ≤ 128) }
-{
-    size(k as i16) as usize
-}
 
 // The remainder s behind r.
 pub fn after(r: usize, s: usize, a: usize) -> usize
@@ -26,17 +19,15 @@ pub fn after(r: usize, s: usize, a: usize) -> usize
     if t < a { t } else { t - a }
 }
 
+// The bounds of a table's length stay clauses: round the `&mut` in a struct each function would also have to promise that it holds the same one still.
+
 // No size is taken in: 0 alone is reached.
 fn blank(table: &mut [u16])
     requires { (0 < length table.old) × (length table.old ≤ 100) }
     ensures { Blank table.new }
 {
+    table.fill(FAR);
     table[0] = 0;
-    let mut i = 1;
-    while i < table.len() {
-        table[i] = FAR;
-        i += 1;
-    }
 }
 
 // From a start, k more and k more, as long as that lowers an entry. An entry that falls is gone on from, so that its own step is closed again.
@@ -47,9 +38,9 @@ fn chain(table: &mut [u16], k: usize, s: usize, start: usize)
     ensures { Swept (length table.old) k (start + 1) table.old table.new }
 {
     let a = table.len();
-    let mut v = wide16(table[start]) + k;
+    let mut v = usize::from(table[start]) + k;
     let mut next = after(start, s, a);
-    while v < wide16(table[next]) {
+    while v < usize::from(table[next]) {
         table[next] = v as u16;
         v += k;
         next = after(next, s, a);
@@ -62,10 +53,8 @@ fn sweep(table: &mut [u16], k: usize)
     ensures { Swept (length table.old) k (length table.old) table.old table.new }
 {
     let s = k % table.len();
-    let mut start = 0;
-    while start < table.len() {
+    for start in 0..table.len() {
         chain(table, k, s, start);
-        start += 1;
     }
 }
 
@@ -74,10 +63,9 @@ fn take_in(table: &mut [u16], k: usize)
     requires { (0 < length table.old) × (length table.old ≤ 100) × (k ≤ 128) × (get_or table.old 0 0 ≡ 0) }
     ensures { (ss : List ℕ) → Tabled (length table.old) ss table.old → Tabled (length table.old) (k ∷ ss) table.new }
 {
-    if wide16(table[k % table.len()]) <= k {
-        return;
+    if k < usize::from(table[k % table.len()]) {
+        sweep(table, k);
     }
-    sweep(table, k);
 }
 
 // The table of all sizes.
@@ -86,9 +74,7 @@ pub fn fill(k: &[i8], table: &mut [u16])
     ensures { Tabled (length table.old) (sizes k.now) table.new }
 {
     blank(table);
-    let mut i = k.len();
-    while 0 < i {
-        i -= 1;
-        take_in(table, size_of(k[i]));
+    for z in k.iter().rev() {
+        take_in(table, usize::from(z.unsigned_abs()));
     }
 }

@@ -1,7 +1,6 @@
 -- A row that has each coefficient once, and none of 0, gives the same answers: counts of equal coefficients are added up, and counts of the row are put back at their places.
 use mathlib.Core.Path.{◌≡◌, refl, sym, ap, ap₂, ◌∙◌}
 use mathlib.Core.Logic.{◌⊎◌, inl, inr}
-use mathlib.Core.Bool.{Bool, true, false}
 use mathlib.Core.List.{List, [], ◌∷◌, map}
 use Prim.Native.Nat.{ℕ, zero, suc, ◌+◌, ◌*◌, ◌≤◌, ◌<◌}
 use native.Mathlib.Omega.{arith}
@@ -15,21 +14,8 @@ use Rattle.sums.proofs.Sums.{dot_zeros, total_zeros}
 use Rattle.distinct.specs.Row.{Among, Kept, Inside, Spread}
 use Rattle.distinct.proofs.PutBack.{more, dot_plus, total_plus, at}
 use Rattle.search.specs.Searched.{Hit}
-use Rattle.search.specs.Table.{Looked}
-use Rattle.search.specs.Row.{Over}
+use Rattle.search.specs.Table.{Least}
 use Rattle.search.proofs.Tied.{tied}
-
--- a row that adds up to 0 is zeros
-pub nothing_there : (x : List ℕ) → total x ≡ 0 → x ≡ replicate (length x) 0
-unfolding total
-nothing_there [] e = refl
-nothing_there (zero ∷ x) e = ap (λ (r : List ℕ). 0 ∷ r) (nothing_there x (omega arith))
-nothing_there (suc a ∷ x) e = absurd (omega arith)
-
--- an answer's counts are few
-pub within : (ks : List ℤ) (lo hi : ℤ) (y : List ℕ) (r : Bool) → Looked ks lo hi y r → total y ≤ 19900
-within ks lo hi y true l = l.bound
-within ks lo hi y false l = omega (arith, ap total l.1, total_zeros (length ks))
 
 -- counts for the row of the same sums as z, and no more of them
 record Merged (cs ks : List ℤ) (z : List ℕ) : Type 0 where
@@ -107,14 +93,13 @@ module _ (ks row : List ℤ) (ps : List ℕ) (m : ℕ) (K : Kept ks row ps m (le
           let e = same_value ks (take m row) x y (t positive_part refl) (t negative_part refl) in
           record { places = f; low = rw e h.low; high = rw e h.high }
 
-      pub whole : (r : Bool) → Over (take m row) (take m ps) lo hi x r → Looked ks lo hi x r
-      whole true o =
+      pub whole : (y : List ℕ) → Spread (take m ps) y x → Least (take m row) lo hi y → Least ks lo hi x
+      whole y s l =
           record {
-            hits = widened o.y o.spread o.looked.hits;
-            least = λ z h. omega (arith, o.spread.amount, o.looked.least (merged z).y (narrowed z h), (merged z).fewer);
-            bound = omega (arith, o.spread.amount, o.looked.bound);
+            hits = widened y s l.hits;
+            least = λ z h. omega (arith, s.amount, l.least (merged z).y (narrowed z h), (merged z).fewer);
+            bound = omega (arith, s.amount, l.bound);
           }
-      whole false o = (
-        λ z h. o.looked.0 (merged z).y (narrowed z h),
-        nothing_there x (o.spread.amount ∙ ap total o.looked.1 ∙ total_zeros (length (take m row))) ∙ ap (λ (n : ℕ). replicate n 0) f,
-      )
+
+    pub nothing : ((z : List ℕ) → Hit (take m row) lo hi z → ⊥) → (z : List ℕ) → Hit ks lo hi z → ⊥
+    nothing n z h = n (merged z).y (narrowed z h)

@@ -1,17 +1,17 @@
 -- Sixteen numbers whose first n were found, and zeros behind them.
 use mathlib.Core.Path.{◌≡◌, refl, ap, ◌∙◌}
-use mathlib.Core.Bool.{Bool, true, false}
 use mathlib.Core.List.{List, [], ◌∷◌, ◌++◌}
 use Prim.Native.Nat.{ℕ, zero, suc, ◌+◌, ◌-◌, ◌≤◌}
 use native.Mathlib.Omega.{arith}
 use lib.IntN.{ℤ}
 use lib.ListN.{length, take, drop, replicate}
-use lib.Seq.{take_at}
+use lib.Seq.{take_at, length-take-le, take-append-le}
 use Rattle.nets.specs.HalfSpaces.{sixteen}
 use Rattle.sums.specs.Sum.{total}
 use Rattle.sums.proofs.Sums.{part}
-use Rattle.search.specs.Searched.{Answer}
-use Rattle.search.specs.Table.{Looked}
+use Rattle.search.specs.Searched.{Best}
+use Rattle.search.specs.Table.{Least, Looked}
+use Rattle.std.proofs.Common.{Some}
 
 abbrev zs : ℕ → List ℕ
 zs n = replicate n 0
@@ -26,18 +26,23 @@ zeros_drop zero m l = let e : m ≡ m - 0 = omega arith in ap zs e
 zeros_drop (suc n) zero l = absurd (omega arith)
 zeros_drop (suc n) (suc m) l = let e : m - n ≡ suc m - suc n = omega arith in zeros_drop n m (omega arith) ∙ ap zs e
 
-zeros_both : (n m : ℕ) → n ≤ m → zs n ++ zs (m - n) ≡ zs m
-zeros_both zero m l = let e : m - 0 ≡ m = omega arith in ap zs e
-zeros_both (suc n) zero l = absurd (omega arith)
-zeros_both (suc n) (suc m) l =
-    let e : suc m - suc n ≡ m - n = omega arith in
-    ap (λ (r : List ℕ). 0 ∷ r) (ap (λ (k : ℕ). zs n ++ zs k) e ∙ zeros_both n m (omega arith))
-
 total_behind : (y : List ℕ) (m : ℕ) → total (y ++ zs m) ≡ total y
 unfolding total
 total_behind [] zero = refl
 total_behind [] (suc m) = omega (arith, total_behind [] m)
 total_behind (a ∷ y) m = ap (λ (t : ℕ). a + t) (total_behind y m)
+
+-- the first m of what a call left of the first n of zs
+pub front_of : {A : Type 0} (m n : ℕ) (xs zs : List A) → n ≤ length zs → length xs ≡ length (take n zs) → m ≤ n → (length xs ≡ n) × (take m (xs ++ drop n zs) ≡ take m xs)
+front_of m n xs zs l e b =
+    let long : length xs ≡ n = e ∙ length-take-le n zs l in
+    (long, take-append-le m xs (drop n zs) (omega arith))
+
+-- what was found for the front of the row
+pub found_of : (m n : ℕ) (row zs : List ℤ) (lo hi : ℤ) (y : List ℕ) → n ≤ length zs → length row ≡ length (take n zs) → m ≤ n → Looked (take m (row ++ drop n zs)) lo hi (Some y) → Least (take m row) lo hi (take m y)
+found_of m n row zs lo hi y l e b found =
+    let f = front_of m n row zs l e b in
+    rw (f.1, length-take-le m row (omega (arith, f.0))) at found
 
 module _ (ks : List ℤ) (lo hi : ℤ) (n : ℕ) (l : n ≤ 16) (e : length ks ≡ n) (y : List ℕ) (f : length y ≡ n) where
   x : List ℕ
@@ -51,13 +56,12 @@ module _ (ks : List ℤ) (lo hi : ℤ) (n : ℕ) (l : n ≤ 16) (e : length ks �
   unfolding x
   row = rw (front, f)
 
-  pub answered : (r : Bool) → Looked ks lo hi y r → Answer ks lo hi n (y ++ zs (16 - n)) r
+  pub answered : Least ks lo hi y → Best ks lo hi n (y ++ zs (16 - n))
   unfolding x
-  answered true h =
+  answered h =
       record {
         row = row;
         hits = rw front h.hits;
         least = rw front h.least;
         bounded = λ p. omega (arith, part x p, total_behind y (16 - n), h.bound);
       }
-  answered false h = record { none = h.0; row = ap (λ (z : List ℕ). z ++ zs (16 - n)) (h.1 ∙ ap zs e) ∙ zeros_both n 16 l }

@@ -1,3 +1,2 @@
 pub mod Searched
 pub mod Table
-pub mod Row

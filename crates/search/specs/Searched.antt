@@ -1,8 +1,7 @@
 -- What `find` answers: is there an x of whole numbers, zero or more, with lo ≤ k(0) x(0) + k(1) x(1) + .. ≤ hi, and which has the least total?
-use Rattle.std.specs.Prelude.{◌≡◌, Bool, true, false, List, [], ℕ, ◌≤◌, length, get_or, take, ℤ, pos, negsuc, ◌≤ℤ◌}
+use Rattle.std.specs.Prelude.{◌≡◌, Option, Some, None, List, ℕ, ◌≤◌, length, get_or, take, ℤ, pos, negsuc, ◌≤ℤ◌}
 use Rattle.nets.specs.HalfSpaces.{value, sixteen}
 use Rattle.sums.specs.Sum.{total}
-use Rattle.search.specs.declared.Found.{Found}
 
 -- x has a number for each coefficient, and the value lies in the window
 pub record Hit (ks : List ℤ) (lo hi : ℤ) (x : List ℕ) : Type 0 where
@@ -17,17 +16,10 @@ pub record Best (ks : List ℤ) (lo hi : ℤ) (n : ℕ) (x : List ℕ) : Type 0 
   pub least : (z : List ℕ) → Hit ks lo hi z → total (take n x) ≤ total z
   pub bounded : (p : ℕ) → get_or x p 0 ≤ 19900
 
--- nothing hits, and the numbers are zeros
-pub record Without (ks : List ℤ) (lo hi : ℤ) (x : List ℕ) : Type 0 where
-  pub none : (z : List ℕ) → Hit ks lo hi z → ⊥
-  pub row : x ≡ sixteen 0 []
-
-abbrev pub Answer : List ℤ → ℤ → ℤ → ℕ → List ℕ → Bool → Type 0
-Answer ks lo hi n x true = Best ks lo hi n x
-Answer ks lo hi n x false = Without ks lo hi x
-
-abbrev pub Searched : List ℤ → ℤ → ℤ → ℕ → Found → Type 0
-Searched ks lo hi n r = Answer ks lo hi n r.x r.hit
+-- the best, or that nothing hits
+abbrev pub Searched : List ℤ → ℤ → ℤ → ℕ → Option (List ℕ) → Type 0
+Searched ks lo hi n (Some x) = Best ks lo hi n x
+Searched ks lo hi n None = (z : List ℕ) → Hit ks lo hi z → ⊥
 
 -- the window's ends are within 19,500 of 0 (hi may be lower: then it is below lo, and nothing hits)
 pub record Ends (lo hi : ℤ) : Type 0 where

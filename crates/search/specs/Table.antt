@@ -1,15 +1,9 @@
 -- Where the table puts 0 and the window.
-use Rattle.std.specs.Prelude.{◌≡◌, Bool, true, false, List, ℕ, ◌+◌, ◌≤◌, ◌<◌, length, get_or, replicate, ℤ, pos, ◌≤ℤ◌}
+use Rattle.std.specs.Prelude.{◌≡◌, Option, Some, None, List, ℕ, ◌+◌, ◌≤◌, ◌<◌, length, get_or, take, ℤ, pos, ◌≤ℤ◌, ◌+ℤ◌, ◌-ℤ◌}
 use Rattle.signed.specs.Parts.{positive_part, negative_part}
 use Rattle.sums.specs.Sum.{total}
 use Rattle.search.specs.Searched.{Hit}
 use Rattle.search.specs.declared.table.Table.{Table}
-
--- r is the larger of a and b
-pub record Larger (a b r : ℤ) : Type 0 where
-  pub left : a ≤ℤ r
-  pub right : b ≤ℤ r
-  pub least : (m : ℤ) → a ≤ℤ m → b ≤ℤ m → r ≤ℤ m
 
 -- how far a step leads at most
 pub record Length (m : ℤ) : Type 0 where
@@ -22,21 +16,29 @@ pub record Longest (ks : List ℤ) (m : ℤ) : Type 0 where
   pub down : (p : ℕ) → negative_part (get_or ks p (pos 0)) ≤ positive_part m
   pub length : Length m
 
--- t.lo and t.hi are the positions of lo and hi; there is room for a step of m below hi and from below lo, and no more than 19,900 positions
+-- what 0 at position s leaves room for, and how high it stands
+pub record Roomy (lo hi m s : ℤ) : Type 0 where
+  pub low : pos 0 ≤ℤ s
+  pub low_lo : pos 0 ≤ℤ (s +ℤ lo)
+  pub low_hi : m ≤ℤ (s +ℤ hi)
+  pub high : s ≤ℤ pos 19628
+  pub high_lo : s ≤ℤ (pos 19628 -ℤ lo)
+
+-- t.window.lo and t.window.hi are the positions of lo and hi; there is room for a step of m below hi and from below lo, and no more than 19,900 positions
 pub record Placed (lo hi m : ℤ) (t : Table) : Type 0 where
-  pub low : t.lo + negative_part lo ≡ t.start + positive_part lo
-  pub high : t.hi + negative_part hi ≡ t.start + positive_part hi
+  pub low : t.window.lo + negative_part lo ≡ t.start + positive_part lo
+  pub high : t.window.hi + negative_part hi ≡ t.start + positive_part hi
   pub begin : t.start < t.size
-  pub rise : t.lo + positive_part m ≤ t.size
-  pub fall : positive_part m ≤ t.hi
+  pub rise : t.window.lo + positive_part m ≤ t.size
+  pub fall : positive_part m ≤ t.window.hi
   pub fits : t.size ≤ 19900
 
--- what `look` leaves: true: x hits the window lo .. hi of whole numbers, with the least total; false: nothing does, and x is zeros
+-- what `look` answers: the front of x, a number for each coefficient, hits the window lo .. hi of whole numbers, with the least total; or nothing does
 pub record Least (ks : List ℤ) (lo hi : ℤ) (x : List ℕ) : Type 0 where
   pub hits : Hit ks lo hi x
   pub least : (z : List ℕ) → Hit ks lo hi z → total x ≤ total z
   pub bound : total x ≤ 19900
 
-abbrev pub Looked : List ℤ → ℤ → ℤ → List ℕ → Bool → Type 0
-Looked ks lo hi x true = Least ks lo hi x
-Looked ks lo hi x false = ((z : List ℕ) → Hit ks lo hi z → ⊥) × (x ≡ replicate (length ks) 0)
+abbrev pub Looked : List ℤ → ℤ → ℤ → Option (List ℕ) → Type 0
+Looked ks lo hi (Some x) = Least ks lo hi (take (length ks) x)
+Looked ks lo hi None = (z : List ℕ) → Hit ks lo hi z → ⊥

@@ -9,7 +9,7 @@ use lib.IntN.{ℤ, pos}
 use lib.ListN.{length, get_or, set, length-set, replicate, length-replicate}
 use lib.Seq.{get_or-set_same, get_or-set_other}
 use Rattle.signed.specs.Parts.{positive_part, negative_part}
-use Rattle.spreading.specs.State.{zeros, Step, Next, Listed, Within, From, State, Sizes, Visited}
+use Rattle.spreading.specs.State.{zeros, Step, Next, Listed, Within, From, State, Sizes}
 
 zeros-set : (m : List ℕ) (w a : ℕ) → w < length m → get_or m w 0 ≡ 0 → zeros m ≡ zeros (set m w (a + 1)) + 1
 unfolding zeros
@@ -196,33 +196,52 @@ turned ks m q head p tail S hd all =
         let e : i ≡ head = omega arith in
         rw e (S.doing k v (omega arith) (rw e at s) l)
 
--- what `visit` asks and leaves; v is the position of entry `head`
-module _ (ks : List ℤ) (m q : List ℕ) (head p tail v : ℕ) (Z : Sizes ks m q) (hd : head < tail) (pl : p < length ks) (S : State ks m q head p tail) (ev : v ≡ get_or q head 0) where
+-- what the loop of `expand` keeps: entry `head` is expanded by the places below p, and the queue, whose first `tail` entries are as they were, ends at r
+pub record Expanding (ks : List ℤ) (mark queue queue₀ : List ℕ) (head tail p r : ℕ) : Type 0 where
+  pub sizes : Sizes ks mark queue
+  pub grows : tail ≤ r
+  pub kept : (i : ℕ) → i < tail → get_or queue i 0 ≡ get_or queue₀ i 0
+  pub state : State ks mark queue head p r
+
+-- the step of place p from entry `head`, whose position is v
+module _ (ks : List ℤ) (m q q₀ : List ℕ) (head tail p r v : ℕ) (hd : head < tail) (pl : p < length ks) (ev : v ≡ get_or q₀ head 0) (E : Expanding ks m q q₀ head tail p r) where
+  here_now : v ≡ get_or q head 0
+  here_now = ev ∙ sym (E.kept head hd)
+
+  early : head < r
+  early = omega (arith, E.grows)
+
   pub standing : 0 < get_or m v 0
-  standing = rw ev (S.marked head hd)
+  standing = rw here_now (E.state.marked head early)
 
   pub seat : v < length m
   seat = inside m v standing
 
-  module _ (r : ℕ) (X : Next v (positive_part (get_or ks p (pos 0))) (negative_part (get_or ks p (pos 0))) (length m) r) where
-    pub place_left : get_or m r 0 ≡ 0 → tail < length q
-    place_left e = omega (arith, zeros-set m r 0 X.inside e, S.count, Z.room)
+  module _ (k : ℤ) (same : k ≡ get_or ks p (pos 0)) (w : ℕ) (led : Next v (positive_part k) (negative_part k) (length m) w) where
+    X : Next v (positive_part (get_or ks p (pos 0))) (negative_part (get_or ks p (pos 0))) (length m) w
+    X = rw same at led
 
-    pub fresh : get_or m r 0 ≡ 0 → Visited ks (set m r (p + 1)) (set q tail r) q head p tail (tail + 1)
+    pub place_left : get_or m w 0 ≡ 0 → r < length q
+    place_left e = omega (arith, zeros-set m w 0 X.inside e, E.state.count, E.sizes.room)
+
+    pub fresh : get_or m w 0 ≡ 0 → Expanding ks (set m w (p + 1)) (set q r w) q₀ head tail (p + 1) (r + 1)
     fresh e =
-        let mv : r + negative_part (get_or ks p (pos 0)) ≡ v + positive_part (get_or ks p (pos 0)) = X.moved (λ s. omega (arith, standing, ap (λ (k : ℕ). get_or m k 0) s)) in
+        let mv : w + negative_part (get_or ks p (pos 0)) ≡ v + positive_part (get_or ks p (pos 0)) = X.moved (λ s. omega (arith, standing, ap (λ (k : ℕ). get_or m k 0) s)) in
+        let z = E.sizes in
         record {
-          grows = omega arith;
-          kept = λ i l. get_or-set_other q tail i r 0 (λ s. omega arith);
-          state = push ks m q head p tail r S hd (place_left e) (omega arith) X.inside e pl;
+          sizes = record { few = z.few; room = simp length-set z.room; narrow = simp length-set z.narrow };
+          grows = omega (arith, E.grows);
+          kept = λ i l. get_or-set_other q r i w 0 (λ s. omega (arith, E.grows)) ∙ E.kept i l;
+          state = push ks m q head p r w E.state early (place_left e) (omega (arith, here_now)) X.inside e pl;
         }
 
-    pub stale : (get_or m r 0 ≡ 0 → ⊥) → Visited ks m q q head p tail tail
+    pub stale : (get_or m w 0 ≡ 0 → ⊥) → Expanding ks m q q₀ head tail (p + 1) r
     stale n =
         record {
-          grows = omega arith;
-          kept = λ i l. refl;
-          state = skip ks m q head p tail S hd (λ w s l. let e : w ≡ r = X.exact w (omega arith) l in rw e (omega arith));
+          sizes = E.sizes;
+          grows = E.grows;
+          kept = E.kept;
+          state = skip ks m q head p r E.state early (λ x s l. let e : x ≡ w = X.exact x (omega (arith, here_now)) l in rw e (omega arith));
         }
 
 zeros_all : (n : ℕ) → zeros (replicate n 0) ≡ n
@@ -230,7 +249,7 @@ unfolding zeros
 zeros_all zero = refl
 zeros_all (suc n) = ap suc (zeros_all n)
 
-get_or-zeros : (n i : ℕ) → ◌≡◌ {A = ℕ} (get_or (replicate n 0) i 0) 0
+pub get_or-zeros : (n i : ℕ) → ◌≡◌ {A = ℕ} (get_or (replicate n 0) i 0) 0
 get_or-zeros zero i = refl
 get_or-zeros (suc n) zero = refl
 get_or-zeros (suc n) (suc i) = get_or-zeros n i

@@ -1,8 +1,6 @@
 -- What is true of the two areas while a search runs.
-use Rattle.std.specs.Prelude.{◌≡◌, List, [], ◌∷◌, ℕ, zero, suc, ◌+◌, ◌≤◌, ◌<◌, length, get_or, ℤ, pos}
+use Rattle.std.specs.Prelude.{◌≡◌, List, [], ◌∷◌, ℕ, zero, suc, ◌+◌, ◌≤◌, ◌<◌, length, get_or, ℤ, pos, Option, Some, None}
 use Rattle.signed.specs.Parts.{positive_part, negative_part}
-use Rattle.spreading.specs.declared.Reached.{Reached}
-use Rattle.spreading.specs.declared.Reached.TheVariants.{At, Nowhere}
 
 -- how many entries are 0
 unfoldable pub zeros : List ℕ → ℕ
@@ -61,12 +59,6 @@ pub record Sizes (ks : List ℤ) (mark queue : List ℕ) : Type 0 where
   pub room : length mark ≤ length queue
   pub narrow : length mark ≤ 20000
 
--- what `visit` leaves: the step of place p from entry `head` is done, and the queue ends at r
-pub record Visited (ks : List ℤ) (mark queue queue₀ : List ℕ) (head p tail r : ℕ) : Type 0 where
-  pub grows : tail ≤ r
-  pub kept : (i : ℕ) → i < tail → get_or queue i 0 ≡ get_or queue₀ i 0
-  pub state : State ks mark queue head (p + 1) r
-
 -- what `expand` leaves: entry `head` is expanded, and the queue ends at r
 pub record Expanded (ks : List ℤ) (mark queue queue₀ : List ℕ) (head tail r : ℕ) : Type 0 where
   pub grows : tail ≤ r
@@ -101,6 +93,6 @@ pub record Spent (ks : List ℤ) (mark queue : List ℕ) (start lo hi : ℕ) : T
   pub seen : Seen ks mark queue start tail tail
   pub before : Misses queue lo hi tail
 
-abbrev pub Reaches : List ℤ → List ℕ → List ℕ → ℕ → ℕ → ℕ → Reached → Type 0
-Reaches ks mark queue start lo hi (At h) = First ks mark queue start lo hi h
-Reaches ks mark queue start lo hi Nowhere = Spent ks mark queue start lo hi
+abbrev pub Reaches : List ℤ → List ℕ → List ℕ → ℕ → ℕ → ℕ → Option ℕ → Type 0
+Reaches ks mark queue start lo hi (Some h) = First ks mark queue start lo hi h
+Reaches ks mark queue start lo hi None = Spent ks mark queue start lo hi

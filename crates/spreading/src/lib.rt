@@ -1,95 +1,89 @@
 // A breadth-first search over positions: from each entry of the queue in its order, one step by each place. A position's mark names the place whose step led there first.
 #![tactic(auto)]
 
-ghost use Rattle.std.specs.Prelude.{◌≡◌, ◌<◌, ◌≤◌, length, get_or, replicate};
+ghost use Rattle.std.specs.Prelude.{◌≡◌, ◌<◌, ◌≤◌, ◌↔◌, IsTrue, length, replicate};
 ghost use Rattle.signed.specs.Parts.{positive_part, negative_part};
-ghost use Rattle.spreading.specs.State.{Next, State, Sizes, Visited, Expanded, Reaches};
+ghost use Rattle.spreading.specs.State.{Next, State, Sizes, Expanded, Reaches};
 
-use terms::wide16;
-
-// The queue's entry that was looked for.
-#[derive(Clone, Copy)]
-pub enum Reached {
-    At(usize),
-    Nowhere,
+// From lo to hi, both inside: positions, or whole numbers. Where hi is below lo there is nothing inside.
+// Not a `RangeInclusive`: one that was gone through has nothing inside any more, which each contract would have to rule out.
+#[derive(Clone, Copy, Debug, PartialEq, Eq)]
+pub struct Window<T> {
+    pub lo: T,
+    pub hi: T,
 }
 
-// The position one step of k from v, and v itself where that lies outside the table. The sum is taken modulo 2^32, where one below 0
-// is larger than any position: one test then covers both ends.
+impl Window<usize> {
+    fn holds(self, v: usize) -> bool
+        ensures { IsTrue result ↔ ((self.lo ≤ v) × (v ≤ self.hi)) }
+    {
+        self.lo <= v && v <= self.hi
+    }
+}
+
+// The position one step of k from v, and v itself where that lies outside the table. A sum below 0 wraps to more than any position:
+// one test then covers both ends. In 32 bits the step, which the whole search waits for, is shorter.
 fn next(v: usize, k: i8, size: usize) -> usize
     requires { (v < size) × (size ≤ 20000) }
     ensures { Next v (positive_part k) (negative_part k) size result }
 {
-    let w = (((v as i64) + (k as i64) + 4294967296) as usize) % 4294967296;
+    let w = (v as u32).wrapping_add_signed(i32::from(k)) as usize;
     if w < size { w } else { v }
 }
 
-// The step of place p from entry `head` of the queue, which is v: a position that is not marked yet is marked and queued.
-fn visit(
-    k: &[i8],
-    mark: &mut [u8],
-    queue: &mut [u16],
-    head: usize,
-    v: usize,
-    p: usize,
-    tail: usize,
-) -> usize
-    requires sizes { Sizes k.now mark.old queue.old }
-    requires head_lt_tail { (head < tail) × (p < length k.now) × (v ≡ get_or queue.old head 0) }
-    requires state { State k.now mark.old queue.old head p tail }
-    ensures { Visited k.now mark.new queue.new queue.old head p tail result }
-{
-    let w = next(v, k[p], mark.len());
-    if mark[w] == 0 {
-        mark[w] = (p + 1) as u8;
-        queue[tail] = w as u16;
-        return tail + 1;
-    }
-    tail
+// A search's steps, and its two areas: a mark for each position, and the queue.
+#[derive(Drop)]
+pub struct Frontier<'a> {
+    pub steps: &'a [i8],
+    pub mark: &'a mut [u8],
+    pub queue: &'a mut [u16],
+    ghost sizes: { Sizes steps.now mark.now queue.now },
 }
 
-fn expand(k: &[i8], mark: &mut [u8], queue: &mut [u16], head: usize, tail: usize) -> usize
-    requires sizes { Sizes k.now mark.old queue.old }
-    requires head_lt_tail { head < tail }
-    requires state { State k.now mark.old queue.old head 0 tail }
-    ensures { Expanded k.now mark.new queue.new queue.old head tail result }
-{
-    let v = wide16(queue[head]);
-    let mut t = tail;
-    let mut p = 0;
-    while p < k.len() {
-        t = visit(k, mark, queue, head, v, p, t);
-        p += 1;
-    }
-    t
-}
+impl<'a> Frontier<'a> {
+    ghost use Rattle.spreading.specs.Areas.{SameAreas};
 
-// The first entry of the queue that lies in the window, in breadth-first order from `start`.
-pub fn reach(
-    k: &[i8],
-    mark: &mut [u8],
-    queue: &mut [u16],
-    start: usize,
-    lo: usize,
-    hi: usize,
-) -> Reached
-    requires sizes { Sizes k.now mark.old queue.old }
-    requires start_in_bounds { (start < length mark.old) × (mark.old ≡ replicate (length mark.old) 0) }
-    ensures { Reaches k.now mark.new queue.new start lo hi result }
-{
-    mark[start] = 255;
-    queue[0] = start as u16;
-    let mut head = 0;
-    let mut tail = 1;
-    while head < tail {
-        let v = wide16(queue[head]);
-        if lo <= v {
-            if v <= hi {
-                return Reached::At(head);
+    // Entry `head` of the queue is expanded: a position one step away that is not marked yet is marked and queued.
+    fn expand(&mut self, head: usize, tail: usize) -> usize
+        requires head_lt_tail { head < tail }
+        requires state { let s = self.old in State s.steps.now s.mark.now s.queue.now head 0 tail }
+        ensures same { SameAreas self.old self.new }
+        ensures done { let s = self.new in Expanded s.steps.now s.mark.now s.queue.now self.old.queue.now head tail result }
+    {
+        // As slices of their own the areas are read once, and not at each step.
+        let mark = &mut *self.mark;
+        let queue = &mut *self.queue;
+        let v = usize::from(queue[head]);
+        let mut end = tail;
+        for (p, step) in self.steps.iter().enumerate() {
+            let w = next(v, *step, mark.len());
+            if mark[w] == 0 {
+                mark[w] = (p + 1) as u8;
+                queue[end] = w as u16;
+                end += 1;
             }
         }
-        tail = expand(k, mark, queue, head, tail);
-        head += 1;
+        end
     }
-    Reached::Nowhere
+
+    // The first entry of the queue that lies in the window, in breadth-first order from `start`.
+    pub fn reach(&mut self, start: usize, window: Window<usize>) -> Option<usize>
+        requires start_in_bounds { (start < length self.old.mark.now) × (self.old.mark.now ≡ replicate (length self.old.mark.now) 0) }
+        ensures same { SameAreas self.old self.new }
+        ensures reached { let s = self.new in Reaches s.steps.now s.mark.now s.queue.now start window.lo window.hi result }
+    {
+        self.mark[start] = 255;
+        self.queue[0] = start as u16;
+        let mut head = 0;
+        let mut tail = 1;
+        // Not a `for`: the queue grows while it is read.
+        while head < tail {
+            if window.holds(usize::from(self.queue[head])) {
+                return Some(head);
+            }
+            tail = self.expand(head, tail);
+            head += 1;
+        }
+        None
+    }
 }

@@ -1,1 +1,3 @@
+pub mod ToldByAny
+pub mod LeastSize
 pub mod SomeSize

@@ -1,11 +1,5 @@
 -- The smallest of the sizes that are not 0.
-use Rattle.std.specs.Prelude.{◌≡◌, ◌⊎◌, List, ℕ, ◌≤◌, ◌<◌, get_or}
-
--- what `smaller` gives
-pub record Smaller (s m r : ℕ) : Type 0 where
-  pub low : r ≤ m
-  pub under : 0 < s → r ≤ s
-  pub one : (r ≡ m) ⊎ ((r ≡ s) × (0 < s))
+use Rattle.std.specs.Prelude.{◌≡◌, List, ℕ, ◌≤◌, ◌<◌, get_or}
 
 -- some size is not 0
 unfoldable pub NotAll0 : List ℕ → Type 0

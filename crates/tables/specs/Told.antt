@@ -1,41 +1,30 @@
 -- What is told of a claim's coefficients.
-use Rattle.std.specs.Prelude.{Bool, true, false, List, ℕ, ◌≤◌, length, ℤ}
+use Rattle.std.specs.Prelude.{List, ℕ, ◌≤◌, length, ℤ}
 use Rattle.nets.specs.Verdicts.{SomeAbove, SomeBelow}
 use Rattle.remainders.specs.Sums.{sizes, Exact}
-use Rattle.tables.specs.declared.Sort.{Sort}
-use Rattle.tables.specs.declared.Sort.TheVariants.{Still, Rising, Falling, Mixed}
-use Rattle.tables.specs.declared.Reach.{Reach}
+use Rattle.tables.specs.declared.Values.{Values}
+use Rattle.tables.specs.declared.Values.TheVariants.{Zero, Rising, Falling, Mixed}
 
--- a flag says whether Q holds
-abbrev pub Says : Bool → Type 0 → Type 0
-Says true Q = Q
-Says false Q = Q → ⊥
+-- a table of remainders has an entry at least, and no more than the largest size
+pub record Usable (table : List ℕ) : Type 0 where
+  pub some : 1 ≤ length table
+  pub short : length table ≤ 100
 
--- which signs the coefficients have
-abbrev pub IsSort : List ℤ → Sort → Type 0
-IsSort ks Still = (SomeAbove ks → ⊥) × (SomeBelow ks → ⊥)
-IsSort ks Rising = SomeAbove ks × (SomeBelow ks → ⊥)
-IsSort ks Falling = (SomeAbove ks → ⊥) × SomeBelow ks
-IsSort ks Mixed = SomeAbove ks × SomeBelow ks
+-- the table of the sizes ss
+pub record IsTable (ss table : List ℕ) : Type 0 where
+  pub usable : Usable table
+  pub exact : Exact ss (length table) table
 
-abbrev pub has_table : Sort → Bool
-has_table Still = false
-has_table Rising = true
-has_table Falling = true
-has_table Mixed = false
+-- the tables can be asked
+abbrev pub AllUsable : Values → Type 0
+AllUsable Zero = Unit {0}
+AllUsable (Rising table) = Usable table.now
+AllUsable (Falling table) = Usable table.now
+AllUsable Mixed = Unit {0}
 
--- with one sign, the table is exact; else there is none
-abbrev pub IfTabled : Bool → Type 0 → Type 0
-IfTabled true Q = Q
-IfTabled false Q = Unit {0}
-
--- the first `least` entries of a table can be asked
-pub record Usable (least : ℕ) (table : List ℕ) : Type 0 where
-  pub some : 1 ≤ least
-  pub short : least ≤ 100
-  pub inside : least ≤ length table
-
-pub record Told (ks : List ℤ) (r : Reach) (table : List ℕ) : Type 0 where
-  pub sort : IsSort ks r.sort
-  pub usable : Usable r.least table
-  pub tabled : IfTabled (has_table r.sort) (Exact (sizes ks) r.least table)
+-- which signs the coefficients have, and with one sign the table of their sizes
+abbrev pub Told : List ℤ → Values → Type 0
+Told ks Zero = (SomeAbove ks → ⊥) × (SomeBelow ks → ⊥)
+Told ks (Rising table) = SomeAbove ks × (SomeBelow ks → ⊥) × IsTable (sizes ks) table.now
+Told ks (Falling table) = (SomeAbove ks → ⊥) × SomeBelow ks × IsTable (sizes ks) table.now
+Told ks Mixed = SomeAbove ks × SomeBelow ks

@@ -1,12 +1,5 @@
--- Text as bytes: characters, numbers in plain decimal, and what writing into an area does.
+-- Text as bytes: numbers in plain decimal, and what writing into an area does.
 use Rattle.std.specs.Prelude.{◌≡◌, cond, List, [], ◌∷◌, ◌++◌, ℕ, zero, suc, ◌+◌, ◌/◌, ◌%◌, ltb, length, take, drop}
-use Prim.Native.Char.{code}
-use Prim.Native.String as string
-
--- the bytes of a text of plain characters
-abbrev pub chars : string.String → List ℕ
-chars string.[] = []
-chars (string.◌∷◌ c s) = code c ∷ chars s
 
 -- each line ends with one newline byte
 abbrev pub newline : List ℕ
@@ -15,7 +8,8 @@ newline = 10 ∷ []
 abbrev pub digit : ℕ → ℕ
 digit d = 48 + d
 
--- a number in plain decimal: its last digit stands behind those of the tenth part (a number has fewer digits than its successor says)
+-- a number in plain decimal: its last digit stands behind those of the tenth part (a number has fewer digits than its successor says);
+-- not std's `decimal`, which is the same below 2 ^ 64 (`decimal_printed`), but keeps at most 64 digits of any number
 unfoldable pub spelled : ℕ → ℕ → List ℕ
 spelled zero n = []
 spelled (suc more) n = cond (ltb n 10) (digit n ∷ []) (spelled more (n / 10) ++ (digit (n % 10) ∷ []))

@@ -1,48 +1,61 @@
 // Text written into an area that the caller lends, piece behind piece.
 #![tactic(auto)]
 
-ghost use Rattle.std.specs.Prelude.{[], ◌∷◌, ◌++◌, ◌+◌, ◌≤◌, ◌<◌, length};
-ghost use Rattle.text.specs.Bytes.{Wrote, digit, decimal};
+ghost use Rattle.std.specs.Prelude.{◌≡◌, ◌++◌, ◌+◌, length};
+ghost use Rattle.text.specs.Bytes.{decimal};
+ghost use Rattle.text.specs.Writing.{Puts, HasRoom};
 
-// Bytes as they are; the answer is where they end.
-pub fn put(text: &mut [u8], at: usize, bytes: &[u8]) -> usize
-    requires { at + length bytes.now ≤ length text.old }
-    ensures { Wrote bytes.now text.old at text.new result }
-{
-    let mut i = 0;
-    while i < bytes.len() {
-        text[at + i] = bytes[i];
-        i += 1;
+use itoa::Buffer;
+
+// What is written so far stands at the area's start.
+// No `fmt::Write` or `Display`: no clause of std rules out an `Err` of `write!`, and the public calls that print cannot fail.
+#[derive(Drop)]
+pub struct Writer<'a> {
+    area: &'a mut [u8],
+    len: usize,
+}
+
+impl<'a> Writer<'a> {
+    pub fn new(area: &'a mut [u8]) -> Writer<'a>
+        ensures same_area { result.area.ghost_name ≡ area.entry.ghost_name }
+        ensures empty { (result.area.now ≡ area.old) × (result.len ≡ 0) }
+    {
+        Writer { area, len: 0 }
     }
-    at + bytes.len()
-}
 
-// One digit.
-fn last(text: &mut [u8], at: usize, d: usize) -> usize
-    requires { (d < 10) × (at + 1 ≤ length text.old) }
-    ensures { Wrote (digit d ∷ []) text.old at text.new result }
-{
-    text[at] = (48 + d) as u8;
-    at + 1
-}
-
-// A number in plain decimal: the tenth part first, and the last digit behind it.
-fn number(text: &mut [u8], at: usize, n: usize) -> usize
-    requires { at + length (decimal n) ≤ length text.old }
-    ensures { Wrote (decimal n) text.old at text.new result }
-{
-    if n < 10 {
-        return last(text, at, n);
+    // How many bytes are written.
+    pub fn len(&self) -> usize
+        ensures { result ≡ self.now.len }
+    {
+        self.len
     }
-    let end = number(text, at, n / 10);
-    last(text, end, n % 10)
-}
 
-// A word and a number behind it.
-pub fn labelled(text: &mut [u8], at: usize, word: &[u8], n: usize) -> usize
-    requires { at + length word.now + length (decimal n) ≤ length text.old }
-    ensures { Wrote (word.now ++ decimal n) text.old at text.new result }
-{
-    let end = put(text, at, word);
-    number(text, end, n)
+    // Bytes as they are.
+    pub fn put(&mut self, bytes: &[u8])
+        requires { HasRoom (length bytes.now) self.old }
+        ensures { Puts bytes.now self.old self.new }
+    {
+        let end = self.len + bytes.len();
+        self.area[self.len..end].copy_from_slice(bytes);
+        self.len = end;
+    }
+
+    // A number in plain decimal.
+    #[tactic(auto, using(crate::proofs::Decimal::decimal_printed))]
+    pub fn put_number(&mut self, n: usize)
+        requires { HasRoom (length (decimal n)) self.old }
+        ensures { Puts (decimal n) self.old self.new }
+    {
+        let mut digits = Buffer::new();
+        self.put(digits.format(n).as_bytes());
+    }
+
+    // A word and a number behind it.
+    pub fn put_labelled(&mut self, word: &[u8], n: usize)
+        requires { HasRoom (length word.now + length (decimal n)) self.old }
+        ensures { Puts (word.now ++ decimal n) self.old self.new }
+    {
+        self.put(word);
+        self.put_number(n);
+    }
 }

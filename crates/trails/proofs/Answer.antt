@@ -1,5 +1,5 @@
 -- From the queue to the answer for a window: the first entry that lies in it, in breadth-first order, has the least total, and where none does nothing hits.
-use mathlib.Core.Path.{◌≡◌}
+use mathlib.Core.Path.{◌≡◌, sym}
 use mathlib.Core.List.{List}
 use Prim.Native.Nat.{ℕ, ◌+◌, ◌≤◌, ◌<◌}
 use native.Mathlib.Decide.{dec_lt}
@@ -65,15 +65,21 @@ module _ (ks : List ℤ) (m q : List ℕ) (lo hi start h tail : ℕ) (O : Room k
       at_least (ups ks) (downs ks) lo hi (get_or S.L h 0) R
       (closed (get_or S.L h 0) (λ t v b r. sooner l t v (omega arith) r) (λ t v b r. missed t v r (sooner l t v b r))) start y here g
 
-module _ (ks : List ℤ) (m q : List ℕ) (lo hi start : ℕ) (O : Room ks (length m) start lo hi) where
-  pub led : (h : ℕ) (x : List ℕ) → First ks m q start lo hi h → Trailed ks m q start h x → Led ks (length m) start lo hi x
+-- the table's size and the steps ks are those that the search began with; ks' and m are what it left of them
+module _ (ks ks' : List ℤ) (m q : List ℕ) (size start lo hi : ℕ) (same : ks' ≡ ks) (long : length m ≡ size) (O : Room ks size start lo hi) where
+  room : Room ks' (length m) start lo hi
+  room = rw (same, long) O
+
+  pub led : (h : ℕ) (x : List ℕ) → First ks' m q start lo hi h → Trailed ks' m q start h x → Led ks size start lo hi x
   led h x G t =
       let E = G.entry in
+      rw (sym same, sym long)
       record {
         hits = record { least = omega (arith, t.leads, G.low); most = omega (arith, t.leads, G.high) };
-        least = λ y g. omega (arith, t.few E, least ks m q lo hi start h E.tail O E.seen G.before E.inside y g);
+        least = λ y g. omega (arith, t.few E, least ks' m q lo hi start h E.tail room E.seen G.before E.inside y g);
         bound = omega (arith, t.bound, E.inside, E.seen.state.count);
+        behind = t.behind;
       }
 
-  pub nothing : Spent ks m q start lo hi → (y : List ℕ) → Hits (ups ks) (downs ks) lo hi start y → ⊥
-  nothing X = none ks m q lo hi start X.tail X.tail O X.seen X.before (omega arith)
+  pub nothing : Spent ks' m q start lo hi → (y : List ℕ) → Hits (ups ks) (downs ks) lo hi start y → ⊥
+  nothing X = rw (sym same) (none ks' m q lo hi start X.tail X.tail room X.seen X.before (omega arith))

@@ -142,7 +142,7 @@ module _ (ks : List ℤ) (m q : List ℕ) (start h : ℕ) (Z : Sizes ks m q) (E 
               level = λ F. omega (arith, B.level F, (f F).deeper, F.seen.state.sorted (index q w') (f F).at (lower F) (omega (arith, (f F).earlier, early F)));
             }
 
-        pub hopped : Hop ks m q start h x w p
+        hopped : Hop ks m q start h x w p
         hopped =
             record {
               inside = omega (arith, (f E).inside, named E);
@@ -151,3 +151,7 @@ module _ (ks : List ℤ) (m q : List ℕ) (start h : ℕ) (Z : Sizes ks m q) (E 
               falls = fallen;
               next = hop;
             }
+
+-- the step back from w, whose mark is n
+pub one_hop : (ks : List ℤ) (m q : List ℕ) (start h : ℕ) → Sizes ks m q → Entry ks m q start h → (x : List ℕ) (w : ℕ) → Back ks m q start h x w → (w ≡ start → ⊥) → (n : ℕ) → n ≡ get_or m w 0 → Hop ks m q start h x w (n - 1)
+one_hop ks m q start h Z E x w B ne n e = hopped ks m q start h Z E x w B ne (n - 1) (omega arith)

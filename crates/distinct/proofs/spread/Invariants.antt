@@ -1,12 +1,8 @@
 -- `distinct::spread` meets its contract. The invariant: what was put back and what is still to be put back add up (`Rest` of PutBack.antt).
-use mathlib.Core.Path.{◌≡◌}
-use Prim.Native.Nat.{◌≤◌, ◌-◌}
-use lib.ListN.{length}
+use Rattle.std.specs.Iterator.Adapters.{zip_first, zip_second}
+use Rattle.std.specs.Slice.Iter.{iter_rest}
 use Rattle.distinct.proofs.PutBack.{Rest}
 use Rattle.distinct.proofs.spread.Given as goal
 
-abbrev pub invariant-loop-i : goal.invariant-loop-i
-invariant-loop-i l = (l.i ≤ length l.y) × (length l.x ≡ length l.initial.x) × Rest l.places l.y l.x l.i
-
-abbrev pub decreases-loop-i : goal.decreases-loop-i
-decreases-loop-i l = length l.y - l.i
+abbrev pub invariant-loop-place : goal.invariant-loop-place
+invariant-loop-place l = Rest l.places l.y l.x (iter_rest (zip_first l.place-iterator)) (iter_rest (zip_second l.place-iterator))

@@ -1,38 +1,29 @@
--- `row_divided` meets its contract: after p turns the first p numbers are divided and zeros stand behind them.
+-- `row_divided` meets its contract: the first p numbers are divided and zeros stand behind them.
 use mathlib.Core.Path.{◌≡◌, sym, ap, ◌∙◌, subst}
 use native.Mathlib.Omega.{arith}
+use borrow.Author.Rules.{rules}
 use lib.IntN.{ℤ, pos, ◌*ℤ◌}
-use lib.ListN.{get_or, take, length-take}
-use lib.Seq.{get_or-take}
+use lib.ListN.{get_or}
 use mir.Syntax.{w8, w16}
 use mir.Val.{SFits, to_z, of_z}
-use mir.Facts.{to_z-of_z}
-use borrow.Author.Rules.{sfits_of}
+use Rattle.std.proofs.lemmas.Int.{ints}
 use Rattle.nets.specs.Reduced.{Divides}
 use Rattle.reduction.proofs.Common.{each_at}
 use Rattle.reduction.proofs.Rows.{divided_more, factor_fits}
 use Rattle.reduction.proofs.row_divided.Goals as goal
 
-pub exact-q-requires : goal.exact-q-requires
-exact-q-requires c =
-    let z-fits : SFits w8 (get_or c.args.k c.loop-p.p (pos 0)) = sfits_of {w = w8} c.z-1.given in
-    let z-is : to_z w16 (of_z w16 c.wide.result) ≡ get_or c.args.k c.loop-p.p (pos 0) = to_z-of_z {w = w16} (sfits_of c.wide.type_inv) ∙ c.wide.ensures ∙ to_z-of_z (z-fits) in
-    let a = c.args in
-    let l = c.loop-p in
-    let pre = c.requires in
-    (pre.1, pre.2, subst (Divides a.g) (sym (z-is ∙ sym (get_or-take a.n a.k l.p (pos 0) (omega arith)))) (each_at (Divides a.g) (take a.n a.k) l.p (simp length-take (omega arith)) pre.3))
-
-pub overflow_cast-row : goal.overflow_cast-row
-overflow_cast-row c =
-    let z-fits : SFits w8 (get_or c.args.k c.loop-p.p (pos 0)) = sfits_of {w = w8} c.z-1.given in
-    let z-is : to_z w16 (of_z w16 c.wide.result) ≡ get_or c.args.k c.loop-p.p (pos 0) = to_z-of_z {w = w16} (sfits_of c.wide.type_inv) ∙ c.wide.ensures ∙ to_z-of_z (z-fits) in
-    rw (to_z-of_z (sfits_of c.exact-q.type_inv)) (factor_fits w8 _ c.exact-q.result c.args.g c.requires.1 (sym (z-is) ∙ c.exact-q.ensures) (z-fits))
+pub exact-requires : goal.exact-requires
+exact-requires c =
+    let z = get_or c.args.k.now c.loop-p.p (pos 0) in
+    let z-is : to_z w16 (of_z w16 c.from.result) ≡ z = omega (arith, ints) in
+    (c.requires.1, subst (Divides c.args.g) (sym z-is) (each_at (Divides c.args.g) c.args.k.now c.loop-p.p c.loop-p-test.true c.requires.2))
 
 pub loop-p-preserved : goal.loop-p-preserved
 loop-p-preserved c =
-    let z-fits : SFits w8 (get_or c.args.k c.loop-p.p (pos 0)) = sfits_of {w = w8} c.z-1.given in
-    let z-is : to_z w16 (of_z w16 c.wide.result) ≡ get_or c.args.k c.loop-p.p (pos 0) = to_z-of_z {w = w16} (sfits_of c.wide.type_inv) ∙ c.wide.ensures ∙ to_z-of_z (z-fits) in
-    let q-is : to_z w8 (of_z w8 (to_z w16 (of_z w16 c.exact-q.result))) ≡ c.exact-q.result = to_z-of_z (overflow_cast-row c) ∙ to_z-of_z {w = w16} (sfits_of c.exact-q.type_inv) in
-    let a = c.args in
-    let l = c.loop-p in
-    (omega arith, divided_more a.k a.g l.row l.p (to_z w8 (of_z w8 (to_z w16 (of_z w16 c.exact-q.result)))) (omega arith) (omega arith) l.invariant.1 (sym (z-is) ∙ c.exact-q.ensures ∙ ap (λ (q : ℤ). q *ℤ pos a.g) (sym (q-is))))
+    let z = get_or c.args.k.now c.loop-p.p (pos 0) in
+    let z-is : to_z w16 (of_z w16 c.from.result) ≡ z = omega (arith, ints) in
+    let product : z ≡ c.exact.result *ℤ pos c.args.g = sym z-is ∙ c.exact.ensures in
+    let z-fits : SFits w8 z = search rules in
+    let fits : SFits w8 c.exact.result = factor_fits w8 z c.exact.result c.args.g c.requires.1 product z-fits in
+    let back : to_z w8 (of_z w8 (to_z w16 (of_z w16 c.exact.result))) ≡ c.exact.result = omega (arith, ints) in
+    divided_more c.args.k.now c.args.g c.loop-p.row c.loop-p.p (to_z w8 (of_z w8 (to_z w16 (of_z w16 c.exact.result)))) (omega arith) c.loop-p-test.true c.loop-p.invariant (product ∙ ap (λ (q : ℤ). q *ℤ pos c.args.g) (sym back))

@@ -11,7 +11,7 @@ pub loop-v-init : goal.loop-v-init
 loop-v-init c =
     let g = c.args in
     let a = length g.table.now in
-    begun a g.k g.start g.table.now _ _ refl c.requires.s_value.1 (ap (λ (w : ℕ). w + g.k) c.wide16.ensures)
+    begun a g.k g.start g.table.now _ _ refl c.requires.s_value.1 (ap (λ (w : ℕ). w + g.k) c.from.ensures)
     (c.after-next.ensures ∙ ap (λ (i : ℕ). (g.start + i) % a) c.requires.s_value.0 ∙ add-mod-mod g.start g.k a) c.requires.by_index
 
 pub loop-v-preserved : goal.loop-v-preserved
@@ -20,10 +20,10 @@ loop-v-preserved c =
     let g = c.args in
     let a = length g.table.now in
     goes_on a g.k g.start g.table.now c.loop-v.table c.loop-v.v c.loop-v.next c.requires.ready.long c.loop-v.invariant
-    (lowers c.wide16-in-loop-v.result c.wide16-in-loop-v.ensures c.loop-v-test.true) _ _ refl
+    (lowers c.from-in-loop-v.result c.from-in-loop-v.ensures c.loop-v-test.true) _ _ refl
     (c.after-next-in-loop-v.ensures ∙ ap (λ (i : ℕ). (c.loop-v.next + i) % a) c.requires.s_value.0 ∙ add-mod-mod c.loop-v.next g.k a)
 
 pub returns : goal.returns
 returns c =
     let g = c.args in
-    stops (length g.table.now) g.k g.start g.table.now c.loop-v.table c.loop-v.v c.loop-v.next c.requires.ready.long c.loop-v.invariant (omega (arith, c.loop-v-test.false, c.wide16-in-loop-v.ensures))
+    stops (length g.table.now) g.k g.start g.table.now c.loop-v.table c.loop-v.v c.loop-v.next c.requires.ready.long c.loop-v.invariant (omega (arith, c.loop-v-test.false, c.from-in-loop-v.ensures))

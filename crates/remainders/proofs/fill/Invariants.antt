@@ -1,13 +1,12 @@
--- `remainders::fill` meets its contract. The invariant: the table is that of the sizes from i on.
+-- `remainders::fill` meets its contract. The invariant: the table is that of the sizes taken in so far, the last of the list first.
 use mathlib.Core.Path.{◌≡◌}
-use Prim.Native.Nat.{◌≤◌}
-use lib.ListN.{length, drop}
+use mathlib.Core.List.{map, reverse}
+use lib.ListN.{length}
+use lib.IntN.{ℤ}
+use denote.Ref.{Bor}
 use Rattle.remainders.specs.Sums.{sizes}
 use Rattle.remainders.specs.Steps.{Tabled}
 use Rattle.remainders.proofs.fill.Given as goal
 
-abbrev pub invariant-loop-i : goal.invariant-loop-i
-invariant-loop-i l = (l.i ≤ length l.k) × (length l.table ≡ length l.initial.table) × Tabled (length l.initial.table) (drop l.i (sizes l.k)) l.table
-
-abbrev pub decreases-loop-i : goal.decreases-loop-i
-decreases-loop-i l = l.i
+abbrev pub invariant-loop-z : goal.invariant-loop-z
+invariant-loop-z l = (length l.table ≡ length l.initial.table) × Tabled (length l.initial.table) (sizes (reverse (map (λ (z : Bor ℤ). z.now) l.yielded))) l.table

@@ -1,12 +1,8 @@
 -- `remainders::sweep` meets its contract. The invariant: the steps from the starts below `start` are closed.
 use mathlib.Core.Path.{◌≡◌}
-use Prim.Native.Nat.{◌≤◌, ◌-◌}
 use lib.ListN.{length}
 use Rattle.remainders.specs.Steps.{Swept}
 use Rattle.remainders.proofs.sweep.Given as goal
 
 abbrev pub invariant-loop-start : goal.invariant-loop-start
-invariant-loop-start l = (l.start ≤ length l.initial.table) × (length l.table ≡ length l.initial.table) × Swept (length l.initial.table) l.k l.start l.initial.table l.table
-
-abbrev pub decreases-loop-start : goal.decreases-loop-start
-decreases-loop-start l = length l.initial.table - l.start
+invariant-loop-start l = (length l.table ≡ length l.initial.table) × Swept (length l.initial.table) l.k l.start l.initial.table l.table

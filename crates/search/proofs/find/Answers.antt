@@ -1,42 +1,46 @@
--- `search::find` meets its contract: the answer for the row of distinct coefficients, put back, is that for the first n (Compact.antt), and zeros stand behind them (Rows.antt).
-use mathlib.Core.Path.{◌≡◌, sym, ◌∙◌, subst}
-use mathlib.Core.List.{List, ◌++◌}
-use Prim.Native.Nat.{ℕ, ◌≤◌}
-use native.Mathlib.Omega.{arith}
-use lib.IntN.{ℤ, pos}
-use lib.ListN.{length, take, drop, replicate}
-use lib.Seq.{length-take-le, take-append-le}
-use mir.Syntax.{w8}
-use mir.Facts.{to_z-of_z}
-use borrow.Kind.Array.{e_s_int, good_length}
-use Rattle.distinct.specs.Row.{Kept}
-use Rattle.search.specs.Searched.{Answer}
-use Rattle.search.specs.Row.{Over}
-use Rattle.search.proofs.Rows.{zeros_drop, answered}
-use Rattle.search.proofs.Compact.{whole}
+-- `search::find` meets its contract: the answer for the row of distinct coefficients, put back, is that for the coefficients (Compact.antt), and zeros stand behind them (Rows.antt).
+use Rattle.std.proofs.Common.{arith, ◌≡◌, ℕ, List, pos, refl, sym, ap, ◌∙◌, subst, length, replicate, ◌++◌}
+use Rattle.std.proofs.Math.Seq.{length-take-le}
+use Rattle.search.specs.Searched.{Best}
+use Rattle.search.proofs.Rows.{zeros_take, zeros_drop, front_of, found_of, answered}
+use Rattle.search.proofs.Compact.{whole, nothing}
 use Rattle.search.proofs.find.Goals as goal
+
+pub returns-in_err-y : goal.returns-in_err-y
+returns-in_err-y c =
+    let k = c.args.k.now in
+    let d = c.distinct-m in
+    let w = c.args.window in
+    let row = front_of d.result (length k) d.new.row (replicate 16 (pos 0)) c.requires.places d.auto.row d.ensures.few in
+    let seats = front_of d.result (length k) d.new.places (replicate 16 0) c.requires.places d.auto.places d.ensures.few in
+    rw c.from_residual.ensures
+    (nothing k d.new.row d.new.places d.result d.ensures (omega (arith, row.0, d.ensures.few)) (omega (arith, seats.0, d.ensures.few)) w.lo w.hi (rw row.1 at c.in_err-y.ensures))
+
+pub spread-requires-clause-places_len : goal.spread-requires-clause-places_len
+spread-requires-clause-places_len c =
+    let n = length c.args.k.now in
+    let d = c.distinct-m in
+    let l = c.requires.places in
+    let found = found_of d.result n d.new.row (replicate 16 (pos 0)) _ _ _ l d.auto.row d.ensures.few c.in_ok-y.ensures in
+    let row = front_of d.result n d.new.row (replicate 16 (pos 0)) l d.auto.row d.ensures.few in
+    let seats = front_of d.result n d.new.places (replicate 16 0) l d.auto.places d.ensures.few in (
+      ap length seats.1 ∙ length-take-le d.result d.new.places (omega (arith, seats.0, d.ensures.few)) ∙ sym (found.hits.places ∙ length-take-le d.result d.new.row (omega (arith, row.0, d.ensures.few))),
+      zeros_take n 16 l ∙ ap (λ (i : ℕ). replicate i 0) (sym (length-take-le n (replicate 16 0) l)),
+      found.bound,
+    )
 
 pub returns : goal.returns
 returns c =
-    let many-nats : length (take {A = ℕ} c.args.n (replicate 16 0)) ≡ c.args.n = length-take-le c.args.n (replicate 16 0) c.requires.n_bound.0 in
-    let seats : List ℕ = c.distinct-m.new.places in
-    let row : List ℤ = c.distinct-m.new.row in
-    let stands : Kept (take c.args.n c.args.k) (row) (seats) c.distinct-m.result (length (take c.args.n c.args.k)) = c.distinct-m.ensures in
-    let places : length (take c.args.n c.args.k) ≡ c.args.n = length-take-le c.args.n c.args.k (omega (arith, c.requires.n_bound, good_length (e_s_int w8) 16 c.args.k _ c.well_formed.0)) in
-    let few : c.distinct-m.result ≤ c.args.n = omega (arith, (stands).few, places) in
-    let many-ints : length (take c.args.n (replicate 16 (pos 0))) ≡ c.args.n = length-take-le c.args.n (replicate 16 (pos 0)) c.requires.n_bound.0 in
-    let row-long : length (row) ≡ c.args.n = c.distinct-m.auto.row ∙ many-ints in
-    let row_room : c.distinct-m.result ≤ length (row) = omega (arith, few, row-long) in
-    let row-front : take c.distinct-m.result (row ++ drop {A = ℤ} c.args.n (replicate 16 (pos 0))) ≡ take c.distinct-m.result (row) = take-append-le c.distinct-m.result (row) (drop {A = ℤ} c.args.n (replicate 16 (pos 0))) (row_room) in
-    let seats-long : length (seats) ≡ c.args.n = c.distinct-m.auto.places ∙ many-nats in
-    let seats-room : c.distinct-m.result ≤ length (seats) = omega (arith, few, seats-long) in
-    let seats-front : take c.distinct-m.result (seats ++ drop {A = ℕ} c.args.n (replicate 16 0)) ≡ take c.distinct-m.result (seats) = take-append-le c.distinct-m.result (seats) (drop {A = ℕ} c.args.n (replicate 16 0)) (seats-room) in
-    let a = c.args in
-    let o = c.over-hit in
-    let x = c.over-hit.new.x in
-    let e : length x ≡ a.n = o.auto.x ∙ many-nats in
-    let ks = take a.n a.k in
-    let found = rw (to_z-of_z c.ranges.lo, to_z-of_z c.ranges.hi) at o.ensures in
-    let part = subst (λ (r : List ℤ). Over r (take c.distinct-m.result (seats)) a.lo a.hi x o.result) (row-front) (subst (λ (q : List ℕ). Over (take c.distinct-m.result (row ++ drop {A = ℤ} a.n (replicate 16 (pos 0)))) q a.lo a.hi x o.result) (seats-front) found) in
-    subst (λ (z : List ℕ). Answer ks a.lo a.hi a.n (x ++ z) o.result) (sym (zeros_drop a.n 16 c.requires.n_bound.0))
-    (answered ks a.lo a.hi a.n c.requires.n_bound.0 (places) x e o.result (whole ks (row) (seats) c.distinct-m.result (stands) (row_room) (seats-room) a.lo a.hi x (e ∙ sym (places)) o.result part))
+    let k = c.args.k.now in
+    let n = length k in
+    let d = c.distinct-m in
+    let l = c.requires.places in
+    let w = c.args.window in
+    let x = c.spread.new.x in
+    let found = found_of d.result n d.new.row (replicate 16 (pos 0)) _ _ _ l d.auto.row d.ensures.few c.in_ok-y.ensures in
+    let row = front_of d.result n d.new.row (replicate 16 (pos 0)) l d.auto.row d.ensures.few in
+    let seats = front_of d.result n d.new.places (replicate 16 0) l d.auto.places d.ensures.few in
+    let long : length x ≡ n = c.spread.auto.x ∙ length-take-le n (replicate 16 0) l in
+    let put = rw seats.1 at c.spread.ensures in
+    let best = whole k d.new.row d.new.places d.result d.ensures (omega (arith, row.0, d.ensures.few)) (omega (arith, seats.0, d.ensures.few)) w.lo w.hi x long _ put found in
+    subst (λ (z : List ℕ). Best k w.lo w.hi n (x ++ z)) (sym (zeros_drop n 16 l)) (answered k w.lo w.hi n l refl x long best)

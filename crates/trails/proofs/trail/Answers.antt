@@ -1,88 +1,66 @@
 -- `trails::trail` meets its contract. The invariant: the counts so far lead from w to entry h. The measure is w's index in the queue.
-use mathlib.Core.Path.{◌≡◌, ap, ◌∙◌}
-use mathlib.Core.List.{List}
-use Prim.Native.Nat.{ℕ, ◌+◌, ◌-◌, ◌<◌}
-use native.Mathlib.Omega.{arith}
-use lib.IntN.{ℤ, pos}
-use lib.ListN.{length, get_or, length-set, length-replicate}
-use mir.Syntax.{w8}
-use mir.Facts.{to_z-of_z}
-use borrow.Author.Rules.{sfits_of}
-use Rattle.signed.specs.Parts.{positive_part, negative_part}
-use Rattle.trails.proofs.Backward.{fits, arrived, seat, Hop, hopped}
+use Rattle.std.proofs.Common.{◌-◌, ◌∙◌, rules, arith, refl, get_or, pos, w8, FitsSigned, replicate, get_or-set_other}
+use Rattle.std.proofs.lemmas.Int.{to_z-of_z}
+use Rattle.std.proofs.Math.ListN.{length-set, length-replicate}
+use Rattle.spreading.proofs.Queue.{get_or-zeros}
+use Rattle.trails.proofs.Backward.{arrived, seat, one_hop}
 use Rattle.trails.proofs.trail.Goals as goal
 
 pub loop-w-init : goal.loop-w-init
-loop-w-init c =
-    let a = c.args in
-    let n = length a.k.now in (
-      ap length c.requires.x_value ∙ length-replicate n 0,
-      rw c.wide16-w.ensures (arrived a.k.now a.mark.now a.queue.now a.start a.h c.requires.sizes c.requires.entry a.x.now n c.requires.x_value),
+loop-w-init g c =
+    let f = c.args.frontier.now in (
+      length-replicate g.row.N 0,
+      λ p l. get_or-zeros g.row.N p,
+      rw c.from-w.ensures (arrived _ _ _ _ _ f.sizes c.requires.entry (replicate g.row.N 0) g.row.N refl),
     )
 
-pub bounds-k-p : goal.bounds-k-p
-bounds-k-p c =
-    let W : ℕ = c.loop-w.w in
-    let X : List ℕ = c.loop-w.x in
-    let hops : (m : ℕ) → m ≡ get_or c.args.mark.now (W) 0 → Hop c.args.k.now c.args.mark.now c.args.queue.now c.args.start c.args.h (X) (W) (m - 1) = λ m e. let a = c.args in
-    hopped a.k.now a.mark.now a.queue.now a.start a.h c.requires.sizes c.requires.entry (X) (W) c.loop-w.invariant.1 c.loop-w-test.true (m - 1) (omega arith) in
-    (hops _ c.wide8-p.ensures).inside
+pub bounds-frontier-p : goal.bounds-frontier-p
+bounds-frontier-p g c =
+    let l = c.loop-w in
+    (one_hop _ _ _ _ _ c.args.frontier.now.sizes c.requires.entry _ _ l.invariant.2 c.loop-w-test.true _ c.from-p.ensures).inside
 
 pub former-w-requires : goal.former-w-requires
-former-w-requires c =
-    let K : ℕ → ℤ = λ p. get_or c.args.k.now p (pos 0) in
-    let W : ℕ = c.loop-w.w in
-    let X : List ℕ = c.loop-w.x in
-    let seated : W < length c.args.mark.now = let a = c.args in
-    seat a.k.now a.mark.now a.queue.now a.start a.h c.requires.sizes c.requires.entry (X) (W) c.loop-w.invariant.1 in
-    let hops : (m : ℕ) → m ≡ get_or c.args.mark.now (W) 0 → Hop c.args.k.now c.args.mark.now c.args.queue.now c.args.start c.args.h (X) (W) (m - 1) = λ m e. let a = c.args in
-    hopped a.k.now a.mark.now a.queue.now a.start a.h c.requires.sizes c.requires.entry (X) (W) c.loop-w.invariant.1 c.loop-w-test.true (m - 1) (omega arith) in
-    rw (to_z-of_z {w = w8} {z = K (c.wide8-p.result - 1)} (sfits_of c.former-arg-1.given))
-    (omega (arith, seated, c.requires.sizes.narrow), (hops _ c.wide8-p.ensures).enough)
+former-w-requires g c =
+    let l = c.loop-w in
+    let s = c.args.frontier.now in
+    let z = s.sizes in
+    let b = seat _ _ _ _ _ z c.requires.entry _ _ l.invariant.2 in
+    let f : FitsSigned w8 (get_or s.steps.now (c.from-p.result - 1) (pos 0)) = search rules in
+    rw (to_z-of_z w8 _ f)
+    (omega (arith, b, z.narrow), (one_hop _ _ _ _ _ z c.requires.entry _ _ l.invariant.2 c.loop-w-test.true _ c.from-p.ensures).enough)
 
 pub bounds-x-p : goal.bounds-x-p
-bounds-x-p c =
-    let W : ℕ = c.loop-w.w in
-    let X : List ℕ = c.loop-w.x in
-    let hops : (m : ℕ) → m ≡ get_or c.args.mark.now (W) 0 → Hop c.args.k.now c.args.mark.now c.args.queue.now c.args.start c.args.h (X) (W) (m - 1) = λ m e. let a = c.args in
-    hopped a.k.now a.mark.now a.queue.now a.start a.h c.requires.sizes c.requires.entry (X) (W) c.loop-w.invariant.1 c.loop-w-test.true (m - 1) (omega arith) in
-    omega (arith, (hops _ c.wide8-p.ensures).inside, c.loop-w.invariant.0)
+bounds-x-p g c =
+    let l = c.loop-w in
+    omega (arith, (one_hop _ _ _ _ _ c.args.frontier.now.sizes c.requires.entry _ _ l.invariant.2 c.loop-w-test.true _ c.from-p.ensures).inside, c.requires.steps)
 
 pub overflow_add-x : goal.overflow_add-x
-overflow_add-x c =
-    let W : ℕ = c.loop-w.w in
-    let X : List ℕ = c.loop-w.x in
-    let hops : (m : ℕ) → m ≡ get_or c.args.mark.now (W) 0 → Hop c.args.k.now c.args.mark.now c.args.queue.now c.args.start c.args.h (X) (W) (m - 1) = λ m e. let a = c.args in
-    hopped a.k.now a.mark.now a.queue.now a.start a.h c.requires.sizes c.requires.entry (X) (W) c.loop-w.invariant.1 c.loop-w-test.true (m - 1) (omega arith) in
-    record { fits = (hops _ c.wide8-p.ensures).space }
+overflow_add-x g c =
+    let l = c.loop-w in
+    record { fits = (one_hop _ _ _ _ _ c.args.frontier.now.sizes c.requires.entry _ _ l.invariant.2 c.loop-w-test.true _ c.from-p.ensures).space }
 
 pub bounds-x-p-in-loop-w : goal.bounds-x-p-in-loop-w
-bounds-x-p-in-loop-w c =
-    let W : ℕ = c.loop-w.w in
-    let X : List ℕ = c.loop-w.x in
-    let hops : (m : ℕ) → m ≡ get_or c.args.mark.now (W) 0 → Hop c.args.k.now c.args.mark.now c.args.queue.now c.args.start c.args.h (X) (W) (m - 1) = λ m e. let a = c.args in
-    hopped a.k.now a.mark.now a.queue.now a.start a.h c.requires.sizes c.requires.entry (X) (W) c.loop-w.invariant.1 c.loop-w-test.true (m - 1) (omega arith) in
-    omega (arith, (hops _ c.wide8-p.ensures).inside, c.loop-w.invariant.0)
+bounds-x-p-in-loop-w g c =
+    let l = c.loop-w in
+    omega (arith, (one_hop _ _ _ _ _ c.args.frontier.now.sizes c.requires.entry _ _ l.invariant.2 c.loop-w-test.true _ c.from-p.ensures).inside, c.requires.steps)
 
 pub loop-w-smaller : goal.loop-w-smaller
-loop-w-smaller c =
-    let W : ℕ = c.loop-w.w in
-    let X : List ℕ = c.loop-w.x in
-    let hops : (m : ℕ) → m ≡ get_or c.args.mark.now (W) 0 → Hop c.args.k.now c.args.mark.now c.args.queue.now c.args.start c.args.h (X) (W) (m - 1) = λ m e. let a = c.args in
-    hopped a.k.now a.mark.now a.queue.now a.start a.h c.requires.sizes c.requires.entry (X) (W) c.loop-w.invariant.1 c.loop-w-test.true (m - 1) (omega arith) in
-    let K : ℕ → ℤ = λ p. get_or c.args.k.now p (pos 0) in
-    let back : c.former-w.result ≡ W + negative_part (K (c.wide8-p.result - 1)) - positive_part (K (c.wide8-p.result - 1)) = rw (to_z-of_z {w = w8} {z = K (c.wide8-p.result - 1)} (sfits_of c.former-arg-1.given)) at c.former-w.ensures in
-    let t = hops _ c.wide8-p.ensures in
-    rw (back) t.falls
+loop-w-smaller g c =
+    let l = c.loop-w in
+    let s = c.args.frontier.now in
+    let f : FitsSigned w8 (get_or s.steps.now (c.from-p.result - 1) (pos 0)) = search rules in
+    let back = rw (to_z-of_z w8 _ f) at c.former-w.ensures in
+    rw back (one_hop _ _ _ _ _ s.sizes c.requires.entry _ _ l.invariant.2 c.loop-w-test.true _ c.from-p.ensures).falls
 
 pub loop-w-preserved : goal.loop-w-preserved
-loop-w-preserved c =
-    let W : ℕ = c.loop-w.w in
-    let X : List ℕ = c.loop-w.x in
-    let hops : (m : ℕ) → m ≡ get_or c.args.mark.now (W) 0 → Hop c.args.k.now c.args.mark.now c.args.queue.now c.args.start c.args.h (X) (W) (m - 1) = λ m e. let a = c.args in
-    hopped a.k.now a.mark.now a.queue.now a.start a.h c.requires.sizes c.requires.entry (X) (W) c.loop-w.invariant.1 c.loop-w-test.true (m - 1) (omega arith) in
-    let K : ℕ → ℤ = λ p. get_or c.args.k.now p (pos 0) in
-    let back : c.former-w.result ≡ W + negative_part (K (c.wide8-p.result - 1)) - positive_part (K (c.wide8-p.result - 1)) = rw (to_z-of_z {w = w8} {z = K (c.wide8-p.result - 1)} (sfits_of c.former-arg-1.given)) at c.former-w.ensures in
-    let t = hops _ c.wide8-p.ensures in
-    let e = c.loop-w.invariant.0 in
-    (simp length-set e, rw (back) (t.next (omega (arith, t.inside))))
+loop-w-preserved g c =
+    let l = c.loop-w in
+    let s = c.args.frontier.now in
+    let f : FitsSigned w8 (get_or s.steps.now (c.from-p.result - 1) (pos 0)) = search rules in
+    let back = rw (to_z-of_z w8 _ f) at c.former-w.ensures in
+    let t = one_hop _ _ _ _ _ s.sizes c.requires.entry _ _ l.invariant.2 c.loop-w-test.true _ c.from-p.ensures in
+    let i = l.invariant in (
+      length-set l.x _ _ ∙ i.0,
+      λ p b. get_or-set_other l.x (c.from-p.result - 1) p _ 0 (λ e. omega (arith, t.inside)) ∙ i.1 p b,
+      rw back (t.next (omega (arith, t.inside, c.requires.steps))),
+    )

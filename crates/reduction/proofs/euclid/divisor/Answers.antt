@@ -1,22 +1,20 @@
 -- `divisor` meets its contract: the constant is one number more beside the coefficients.
-use mathlib.Core.Path.{◌≡◌, ap, ◌∙◌, subst}
+use mathlib.Core.Path.{◌≡◌, subst}
 use Prim.Native.Nat.{ℕ}
+use native.Mathlib.Omega.{arith}
 use lib.IntN.{nat_abs}
-use lib.ListN.{take}
-use mir.Syntax.{w16}
-use mir.Facts.{to_z-of_z}
+use Rattle.std.proofs.lemmas.Int.{ints}
+use Rattle.std.proofs.lemmas.Nat.Gcd.{IsGcd-swap}
+use Rattle.std.specs.Int.{IsGcd}
 use Rattle.nets.specs.Reduced.{divided_by}
-use Rattle.reduction.specs.Divisors.{IsGcd, space_of}
-use Rattle.reduction.proofs.Remainders.{swapped, gcd_within}
-use Rattle.reduction.proofs.Common.{common_more, common_divisor, size_within}
+use Rattle.reduction.proofs.Common.{common_more, common_divisor}
 use Rattle.reduction.proofs.euclid.divisor.Goals as goal
 
 pub returns : goal.returns
 unfolding divided_by
 returns c =
-    let a = c.args in
-    let r = c.row_divisor-g in
-    let fits = c.ranges.c in
-    let size : c.size.result ≡ nat_abs a.c = c.size.ensures ∙ ap nat_abs (to_z-of_z fits) in
-    let g : IsGcd (nat_abs a.c) r.result c.gcd.result = subst (λ (n : ℕ). IsGcd n r.result c.gcd.result) size c.gcd.ensures in
-    (common_divisor (space_of a.n a.k a.c) c.gcd.result (common_more (take a.n a.k) a.c r.result c.gcd.result r.ensures.0 (swapped (nat_abs a.c) r.result c.gcd.result g)), gcd_within (nat_abs a.c) r.result c.gcd.result 32768 g (size_within w16 a.c fits) r.ensures.1)
+    let g = c.row_divisor.result in
+    let d = c.gcd.result in
+    let size : c.unsigned_abs.result ≡ nat_abs c.args.c = omega (arith, ints) in
+    let both : IsGcd (nat_abs c.args.c) g d = subst (λ (n : ℕ). IsGcd n g d) size c.gcd.ensures in
+    common_divisor (record { coefficients = c.args.k.now; constant = c.args.c }) d (common_more c.args.k.now c.args.c g d c.row_divisor.ensures (IsGcd-swap (nat_abs c.args.c) g d both))
