@@ -5,10 +5,11 @@ ghost use Rattle.std.specs.Prelude.{◌≡◌, IfOk};
 ghost use Rattle.format.specs.Read.{map_ok};
 ghost use Rattle.format.specs.Reading.{reading};
 ghost use Rattle.claims.specs.Held.{claim_check, half_space_of};
-ghost use Rattle.claims.specs.Part.{IsPart, record_at, record_bytes};
+ghost use Rattle.claims.specs.Part.{IsPart, IsRange, record_at, record_bytes};
 
 use reader::{Sheet, measure};
 use refusals::Refusal;
+use std::ops::Range;
 use terms::{Claim, among};
 use values::HalfSpace;
 
@@ -31,10 +32,10 @@ pub fn claim_check(bytes: &[u8], claim: Claim) -> Result<(), Refusal>
     Ok(())
 }
 
-// The record of a claim, its mark included, as a part of the caller's own sheet.
+// Where the record of a claim stands, its mark included.
 #[tactic(auto, unfolding(crate::specs::Held::claim_check))]
-pub fn claim_record(bytes: &[u8], claim: Claim) -> Result<&[u8], Refusal>
-    ensures part { IfOk result (λ part. IsPart part bytes.entry (record_at (reading bytes.now) claim) (record_bytes (reading bytes.now) claim)) }
+pub fn record_range(bytes: &[u8], claim: Claim) -> Result<Range<usize>, Refusal>
+    ensures range { IfOk result (λ range. IsRange range bytes.now (record_at (reading bytes.now) claim) (record_bytes (reading bytes.now) claim)) }
     ensures check { map_ok (λ _. tt) result ≡ claim_check (reading bytes.now) claim }
 {
     let (extent, claims) = measure(bytes)?;
@@ -42,5 +43,14 @@ pub fn claim_record(bytes: &[u8], claim: Claim) -> Result<&[u8], Refusal>
         return Err(Refusal::NotAClaim(claim));
     }
     let at = extent.behind_claims(claim.0 - 1);
-    Ok(&bytes[at..at + 4 + extent.places])
+    Ok(at..at + 4 + extent.places)
+}
+
+// The record of a claim as a part of the caller's own sheet.
+pub fn claim_record(bytes: &[u8], claim: Claim) -> Result<&[u8], Refusal>
+    ensures part { IfOk result (λ part. IsPart part bytes.entry (record_at (reading bytes.now) claim) (record_bytes (reading bytes.now) claim)) }
+    ensures check { map_ok (λ _. tt) result ≡ claim_check (reading bytes.now) claim }
+{
+    let range = record_range(bytes, claim)?;
+    Ok(&bytes[range])
 }

@@ -1,11 +1,10 @@
-use Rattle.std.proofs.Common.{arith, refl, sym, ap, ◌∙◌, ◌≡◌, true, ℕ, ◌+◌}
-use native.Mathlib.Nat.{add_comm}
+use Rattle.std.proofs.Common.{rules, arith, refl, sym, ap, ◌∙◌, ◌≡◌, true, ℕ, ◌+◌, ◌-◌, take, drop, length, length-take-le, length-drop}
 use Rattle.terms.specs.Limits.{among}
 use Rattle.format.proofs.ClaimRecord.{sheet_of}
 use Rattle.reader.specs.Answers.{told}
 use Rattle.reader.proofs.Whole.{known_from}
 use Rattle.claims.proofs.Parts.{behind_fits, record_fits, record_starts, record_reads}
-use Rattle.claims.proofs.claim_record.Goals as goal
+use Rattle.claims.proofs.record_range.Goals as goal
 
 pub behind_claims-at-requires : goal.behind_claims-at-requires
 behind_claims-at-requires c =
@@ -13,14 +12,8 @@ behind_claims-at-requires c =
     let e = c.in_ok-extent in
     behind_fits s (told e.extent.places e.extent.transitions e.claims) (known_from s _ e.ensures) c.args.claim (sym c.among.ensures ∙ c.if-not-among.false)
 
-pub slice_bounds-result-end : goal.slice_bounds-result-end
-slice_bounds-result-end c =
-    let s = c.args.bytes.now in
-    let e = c.in_ok-extent in
-    omega (arith, record_fits s (told e.extent.places e.extent.transitions e.claims) (known_from s _ e.ensures) c.args.claim (sym c.among.ensures ∙ c.if-not-among.false) c.behind_claims-at.result c.behind_claims-at.ensures.0)
-
-pub returns-clause-part : goal.returns-clause-part
-returns-clause-part c =
+pub returns-clause-range : goal.returns-clause-range
+returns-clause-range c =
     let s = c.args.bytes.now in
     let e = c.in_ok-extent in
     let k = told e.extent.places e.extent.transitions e.claims in
@@ -28,8 +21,13 @@ returns-clause-part c =
     let at = c.behind_claims-at.result in
     let is = c.behind_claims-at.ensures.0 in
     let small = sheet_of s (λ i. omega (arith, c.type_inv.bytes i)) in
+    let fits = record_fits s k (known_from s k e.ensures) c.args.claim yes at is in
+    let starts = record_starts s k (known_from s k e.ensures) c.args.claim yes at is small in
+    let reads = record_reads s k (known_from s k e.ensures) c.args.claim yes at is small in
+    let long : at + 4 + k.places - at ≡ length _ = sym (length-take-le _ (drop at s) (omega (arith, length-drop at s))) ∙ ap length reads in
     record {
-      block = refl;
-      offset = add_comm at c.args.bytes.ref_ptr.1 ∙ ap (λ (n : ℕ). c.args.bytes.ref_ptr.1 + n) (record_starts s k (known_from s k e.ensures) c.args.claim yes at is small);
-      reads = record_reads s k (known_from s k e.ensures) c.args.claim yes at is small;
+      start = starts;
+      end = omega (arith, starts, long);
+      within = fits;
+      reads = reads;
     }
