@@ -2,11 +2,20 @@
 #![tactic(auto)]
 
 ghost use Rattle.std.specs.Prelude.{◌≡◌};
+ghost use Rattle.format.specs.Read.{map_ok};
 ghost use Rattle.format.specs.Reading.{reading};
+ghost use Rattle.reader.specs.Answers.{counts_of};
 ghost use Rattle.counts.specs.Counted.{how_many_places, how_many_transitions, how_many_claims};
 
-use reader::Sheet;
+use reader::{Counts, Sheet};
 use refusals::Refusal;
+
+// All three.
+pub fn counts_of(bytes: &[u8]) -> Result<Counts, Refusal>
+    ensures { result ≡ map_ok counts_of (reading bytes.now) }
+{
+    Ok(Sheet::read(bytes)?.counts())
+}
 
 pub fn places_of(bytes: &[u8]) -> Result<usize, Refusal>
     ensures { result ≡ how_many_places (reading bytes.now) }

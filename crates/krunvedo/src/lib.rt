@@ -3,8 +3,9 @@
 #![tactic(auto)]
 
 ghost use Rattle.std.specs.Prelude.{◌≡◌, length};
+ghost use Rattle.format.specs.Read.{map_ok};
 ghost use Rattle.format.specs.Reading.{reading};
-ghost use Rattle.reader.specs.Answers.{answer_of};
+ghost use Rattle.reader.specs.Answers.{counts_of};
 ghost use Rattle.sheet.specs.Held.{weights_of, start_of, target_of};
 ghost use Rattle.claims.specs.Held.{half_space_of, claim_check};
 ghost use Rattle.pairs.specs.Pairs.{pair_check, area_after};
@@ -12,90 +13,56 @@ ghost use Rattle.verdicts.specs.Judged.{verdict_check};
 ghost use Rattle.listing.specs.Listed.{listing_check};
 ghost use Rattle.walk.specs.Walk.{begin_of, step_of};
 ghost use Rattle.traces.specs.Traces.{list_of};
-ghost use Rattle.numbers.specs.Numbers.{check_is, reading_is, weights_is, start_is, target_is, half_space_is, begun_is, traced_is};
+ghost use Rattle.numbers.specs.Numbers.{check_is, counts_are, weights_are, tokens_are, target_is, half_space_is, marking_is, traced_is};
 ghost use Rattle.krunvedo.specs.Exports.{record_of, IsPaired, IsVerdict, IsReducedSpace, IsTwinned, IsListingText, refusal_told, refusal_after};
-
-mod parts; // parts.rt: where a claim's record stands
 
 use numbers::{
     Counted, Fired, Paired, Record, Refused, Space, Target, Tokens, Twinned, Verdict, Weighted,
-    Written, counts_of, kind_of, pair_number, twin_number, verdict_number, verdict_transition,
-    written_number,
+    Written,
 };
-use parts::record_from;
-use refusals::Refusal;
 use terms::{Claim, Place, Transition};
 use walk::Marking;
 
 #[unsafe(no_mangle)]
 pub extern "C" fn krunvedo_read(sheet: &[u8]) -> Counted
-    ensures { result ≡ reading_is (answer_of (reading sheet.now)) }
+    ensures { result ≡ counts_are (map_ok counts_of (reading sheet.now)) }
 {
-    counts_of(reader::read(sheet))
+    Counted::from(counts::counts_of(sheet))
 }
 
 #[unsafe(no_mangle)]
 pub extern "C" fn krunvedo_weights(sheet: &[u8], t: usize) -> Weighted
-    ensures { result ≡ weights_is (weights_of (reading sheet.now) (record { 0 = t })) }
+    ensures { result ≡ weights_are (weights_of (reading sheet.now) (record { 0 = t })) }
 {
-    let w = sheet::weights_of(sheet, Transition(t));
-    let answer = w.answer;
-    let taken = w.taken;
-    let put = w.put;
-    Weighted {
-        refusal: Refused::of_check(answer),
-        taken,
-        put,
-    }
+    Weighted::from(sheet::weights_of(sheet, Transition(t)))
 }
 
 #[unsafe(no_mangle)]
 pub extern "C" fn krunvedo_start(sheet: &[u8]) -> Tokens
-    ensures { result ≡ start_is (start_of (reading sheet.now)) }
+    ensures { result ≡ tokens_are (start_of (reading sheet.now)) }
 {
-    let m = sheet::start_of(sheet);
-    let answer = m.answer;
-    let tokens = m.tokens;
-    Tokens {
-        refusal: Refused::of_check(answer),
-        tokens,
-    }
+    Tokens::from(sheet::start_of(sheet))
 }
 
 #[unsafe(no_mangle)]
 pub extern "C" fn krunvedo_target(sheet: &[u8]) -> Target
     ensures { result ≡ target_is (target_of (reading sheet.now)) }
 {
-    let g = sheet::target_of(sheet);
-    let answer = g.answer;
-    let kind = g.kind;
-    let tokens = g.tokens;
-    Target {
-        refusal: Refused::of_check(answer),
-        kind: kind_of(kind),
-        tokens,
-    }
+    Target::from(sheet::target_of(sheet))
 }
 
 #[unsafe(no_mangle)]
 pub extern "C" fn krunvedo_half_space(sheet: &[u8], i: usize) -> Space
     ensures { result ≡ half_space_is (half_space_of (reading sheet.now) (record { 0 = i })) }
 {
-    let h = claims::half_space_of(sheet, Claim(i));
-    let answer = h.answer;
-    let coefficients = h.coefficients;
-    Space {
-        refusal: Refused::of_check(answer),
-        coefficients,
-        constant: h.constant,
-    }
+    Space::from(claims::half_space_of(sheet, Claim(i)))
 }
 
 #[unsafe(no_mangle)]
 pub extern "C" fn krunvedo_claim_check(sheet: &[u8], i: usize) -> Refused
     ensures { result ≡ check_is (claim_check (reading sheet.now) (record { 0 = i })) }
 {
-    Refused::of_check(claims::claim_check(sheet, Claim(i)))
+    Refused::from(claims::claim_check(sheet, Claim(i)))
 }
 
 // An export returns no reference, so the record is told by where it stands.
@@ -103,13 +70,7 @@ pub extern "C" fn krunvedo_claim_check(sheet: &[u8], i: usize) -> Refused
 pub extern "C" fn krunvedo_claim_record(sheet: &[u8], i: usize) -> Record
     ensures { result ≡ record_of (reading sheet.now) (record { 0 = i }) }
 {
-    let check = claims::claim_check(sheet, Claim(i));
-    let part = claims::claim_record(sheet, Claim(i));
-    Record {
-        refusal: Refused::of_check(check),
-        offset: record_from(sheet, Claim(i)),
-        length: part.len(),
-    }
+    Record::from(claims::record_range(sheet, Claim(i)))
 }
 
 // The transition stands last: with it before the areas, one register would be left for the pointer and the length of `marks`. C then
@@ -126,14 +87,13 @@ pub extern "C" fn krunvedo_pair(
     ensures marks_after { marks.new ≡ area_after (pair_check (reading sheet.now) (record { 0 = i }) (record { 0 = t }) (length marks.old) (length queue.old)) marks.old }
     ensures queue_after { queue.new ≡ area_after (pair_check (reading sheet.now) (record { 0 = i }) (record { 0 = t }) (length marks.old) (length queue.old)) queue.old }
 {
-    let p = pairs::pair_of(sheet, Claim(i), Transition(t), marks, queue);
-    let answer = p.answer;
-    let marking = p.marking;
-    Paired {
-        refusal: Refused::of_pair(answer),
-        answer: pair_number(answer),
-        marking,
-    }
+    Paired::from(pairs::pair_of(
+        sheet,
+        Claim(i),
+        Transition(t),
+        marks,
+        queue,
+    ))
 }
 
 #[unsafe(no_mangle)]
@@ -147,51 +107,28 @@ pub extern "C" fn krunvedo_verdict(
     ensures marks_after { marks.new ≡ area_after (verdict_check (reading sheet.now) (record { 0 = i }) (length marks.old) (length queue.old)) marks.old }
     ensures queue_after { queue.new ≡ area_after (verdict_check (reading sheet.now) (record { 0 = i }) (length marks.old) (length queue.old)) queue.old }
 {
-    let v = verdicts::verdict_of(sheet, Claim(i), marks, queue);
-    let answer = v.answer;
-    let marking = v.marking;
-    Verdict {
-        refusal: Refused::of_verdict(answer),
-        answer: verdict_number(answer),
-        transition: verdict_transition(answer),
-        marking,
-    }
+    Verdict::from(verdicts::verdict_of(sheet, Claim(i), marks, queue))
 }
 
 #[unsafe(no_mangle)]
 pub extern "C" fn krunvedo_reduced(sheet: &[u8], i: usize) -> Space
     ensures { IsReducedSpace (reading sheet.now) (record { 0 = i }) result }
 {
-    let f = twins::reduced_of(sheet, Claim(i));
-    let answer = f.answer;
-    let coefficients = f.coefficients;
-    Space {
-        refusal: Refused::of_check(answer),
-        coefficients,
-        constant: f.constant,
-    }
+    Space::from(twins::reduced_of(sheet, Claim(i)))
 }
 
 #[unsafe(no_mangle)]
 pub extern "C" fn krunvedo_twin(sheet: &[u8], i: usize) -> Twinned
     ensures { IsTwinned (reading sheet.now) (record { 0 = i }) result }
 {
-    let twin = twins::twin_of(sheet, Claim(i));
-    twin_number(twin)
+    Twinned::from(twins::twin_of(sheet, Claim(i)))
 }
 
 #[unsafe(no_mangle)]
 pub extern "C" fn krunvedo_begin(sheet: &[u8]) -> Tokens
-    ensures { result ≡ begun_is (begin_of (reading sheet.now)) }
+    ensures { result ≡ marking_is (begin_of (reading sheet.now)) }
 {
-    let b = walk::begin(sheet);
-    let answer = b.answer;
-    let m = b.marking;
-    let tokens = m.tokens;
-    Tokens {
-        refusal: Refused::of_check(answer),
-        tokens,
-    }
+    Tokens::from(walk::begin(sheet))
 }
 
 // The tokens are lent, and moved on.
@@ -200,13 +137,10 @@ pub extern "C" fn krunvedo_step(tokens: &mut [u16; Place::MOST], sheet: &[u8], t
     ensures value { result ≡ check_is (step_of (reading sheet.now) (record { 0 = t }) (record { tokens = tokens.old })).answer }
     ensures tokens_value { tokens.new ≡ (step_of (reading sheet.now) (record { 0 = t }) (record { tokens = tokens.old })).marking.tokens }
 {
-    let held = *tokens;
-    let s = walk::step_from(Marking { tokens: held }, sheet, Transition(t));
-    let m = s.marking;
-    let next = m.tokens;
-    *tokens = next;
-    let answer = s.answer;
-    Refused::of_check(answer)
+    let mut marking = Marking { tokens: *tokens };
+    let check = walk::step(&mut marking, sheet, Transition(t));
+    *tokens = marking.tokens;
+    Refused::from(check)
 }
 
 // The tokens are moved on by the whole list, or not at all. Before the slices stand 2 and 4 words, a hidden pointer to the answer among them.
@@ -219,16 +153,10 @@ pub extern "C" fn krunvedo_fire_list(
     ensures value { result ≡ traced_is (list_of (reading sheet.now) list.now (record { tokens = tokens.old })) }
     ensures tokens_value { tokens.new ≡ (list_of (reading sheet.now) list.now (record { tokens = tokens.old })).marking.tokens }
 {
-    let before = *tokens;
-    let traced = traces::fire_list(Marking { tokens: before }, sheet, list);
-    let m = traced.marking;
-    let after = m.tokens;
-    *tokens = after;
-    let answer = traced.answer;
-    Fired {
-        refusal: Refused::of_check(answer),
-        position: traced.position,
-    }
+    let mut marking = Marking { tokens: *tokens };
+    let answer = traces::fire_list(&mut marking, sheet, list);
+    *tokens = marking.tokens;
+    Fired::from(answer)
 }
 
 // Before the slices stand 0, 2, 4 and 6 words. A hidden pointer to a longer answer would make it 5 before the queue.
@@ -243,16 +171,14 @@ pub extern "C" fn krunvedo_listing(
     ensures marks_after { marks.new ≡ area_after (listing_check (reading sheet.now) (length marks.old) (length queue.old) (length text.old)) marks.old }
     ensures queue_after { queue.new ≡ area_after (listing_check (reading sheet.now) (length marks.old) (length queue.old) (length text.old)) queue.old }
 {
-    let l = listing::listing_of(sheet, marks, queue, text);
-    written_number(l)
+    Written::from(listing::listing_of(sheet, marks, queue, text))
 }
 
-// The line has the two numbers alone, so what the detail counts plays no part: it is taken for a byte's place.
+// The line has the two numbers alone, so they need not be a refusal's.
 #[unsafe(no_mangle)]
 pub extern "C" fn krunvedo_refusal_text(number: u8, detail: usize, text: &mut [u8]) -> Written
     ensures value { result ≡ refusal_told number detail text.old }
     ensures text_after { text.new ≡ refusal_after number detail text.old }
 {
-    let l = listing::refusal_text(Refusal::at_byte(number, detail), text);
-    written_number(l)
+    Written::from(listing::refusal_text(number, detail, text))
 }

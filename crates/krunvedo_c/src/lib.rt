@@ -4,7 +4,8 @@
 
 ghost use Rattle.std.specs.Prelude.{◌≡◌, length};
 ghost use Rattle.format.specs.Reading.{reading};
-ghost use Rattle.reader.specs.Answers.{answer_of};
+ghost use Rattle.format.specs.Read.{map_ok};
+ghost use Rattle.reader.specs.Answers.{counts_of};
 ghost use Rattle.sheet.specs.Held.{weights_of, start_of, target_of};
 ghost use Rattle.claims.specs.Held.{half_space_of, claim_check};
 ghost use Rattle.pairs.specs.Pairs.{pair_check, area_after};
@@ -12,7 +13,7 @@ ghost use Rattle.verdicts.specs.Judged.{verdict_check};
 ghost use Rattle.listing.specs.Listed.{listing_check};
 ghost use Rattle.walk.specs.Walk.{begin_of, step_of};
 ghost use Rattle.traces.specs.Traces.{list_of};
-ghost use Rattle.numbers.specs.Numbers.{check_is, reading_is, weights_is, start_is, target_is, half_space_is, begun_is, traced_is};
+ghost use Rattle.numbers.specs.Numbers.{check_is, counts_are, weights_are, tokens_are, target_is, half_space_is, marking_is, traced_is};
 ghost use Rattle.krunvedo.specs.Exports.{record_of, IsPaired, IsVerdict, IsReducedSpace, IsTwinned, IsListingText, refusal_told, refusal_after};
 
 use numbers::{
@@ -23,21 +24,21 @@ use terms::Place;
 
 #[unsafe(no_mangle)]
 pub extern "C" fn krunvedo_read(sheet: &[u8]) -> Counted
-    ensures { result ≡ reading_is (answer_of (reading sheet.now)) }
+    ensures { result ≡ counts_are (map_ok counts_of (reading sheet.now)) }
 {
     krunvedo::krunvedo_read(sheet)
 }
 
 #[unsafe(no_mangle)]
 pub extern "C" fn krunvedo_weights(sheet: &[u8], t: usize) -> Weighted
-    ensures { result ≡ weights_is (weights_of (reading sheet.now) (record { 0 = t })) }
+    ensures { result ≡ weights_are (weights_of (reading sheet.now) (record { 0 = t })) }
 {
     krunvedo::krunvedo_weights(sheet, t)
 }
 
 #[unsafe(no_mangle)]
 pub extern "C" fn krunvedo_start(sheet: &[u8]) -> Tokens
-    ensures { result ≡ start_is (start_of (reading sheet.now)) }
+    ensures { result ≡ tokens_are (start_of (reading sheet.now)) }
 {
     krunvedo::krunvedo_start(sheet)
 }
@@ -117,7 +118,7 @@ pub extern "C" fn krunvedo_twin(sheet: &[u8], i: usize) -> Twinned
 
 #[unsafe(no_mangle)]
 pub extern "C" fn krunvedo_begin(sheet: &[u8]) -> Tokens
-    ensures { result ≡ begun_is (begin_of (reading sheet.now)) }
+    ensures { result ≡ marking_is (begin_of (reading sheet.now)) }
 {
     krunvedo::krunvedo_begin(sheet)
 }

@@ -2,25 +2,31 @@
 #![tactic(auto)]
 
 ghost use Rattle.std.specs.Prelude.{◌≡◌};
-ghost use Rattle.numbers.specs.Numbers.{refusal_is, check_is, reading_is, kind_is, twin_is, pair_number, pair_refusal, listed_is, verdict_number, verdict_refusal, verdict_transition};
+ghost use Rattle.numbers.specs.Verdicts.{verdict_number, verdict_transition};
 
 use amounts::Kind;
-use listing::Listed;
-use reader::Reading;
-use refusals::{Check, Refusal};
-use terms::Place;
-use twins::Twin;
+use judged::Verdict as Judged;
+use pairs::Answer;
+use reader::{Counts, Target as Goal};
+use reduction::Form;
+use refusals::Refusal;
+use sheet::Weights;
+use std::ops::Range;
+use terms::{Claim, Place};
+use traces::Halt;
+use values::HalfSpace;
+use walk::Marking;
 
 // Both are 0 where nothing is refused.
 #[repr(C)]
-#[derive(Clone, Copy)]
+#[derive(Clone, Copy, Debug, PartialEq, Eq)]
 pub struct Refused {
     pub number: u8,
     pub detail: usize,
 }
 
 #[repr(C)]
-#[derive(Clone, Copy)]
+#[derive(Clone, Copy, Debug, PartialEq, Eq)]
 pub struct Counted {
     pub refusal: Refused,
     pub places: usize,
@@ -29,7 +35,7 @@ pub struct Counted {
 }
 
 #[repr(C)]
-#[derive(Clone, Copy)]
+#[derive(Clone, Copy, Debug, PartialEq, Eq)]
 pub struct Weighted {
     pub refusal: Refused,
     pub taken: [u8; Place::MOST],
@@ -37,7 +43,7 @@ pub struct Weighted {
 }
 
 #[repr(C)]
-#[derive(Clone, Copy)]
+#[derive(Clone, Copy, Debug, PartialEq, Eq)]
 pub struct Tokens {
     pub refusal: Refused,
     pub tokens: [u16; Place::MOST],
@@ -45,7 +51,7 @@ pub struct Tokens {
 
 // Kind 0 is one exact marking, kind 1 every marking at or above it.
 #[repr(C)]
-#[derive(Clone, Copy)]
+#[derive(Clone, Copy, Debug, PartialEq, Eq)]
 pub struct Target {
     pub refusal: Refused,
     pub kind: u8,
@@ -53,7 +59,7 @@ pub struct Target {
 }
 
 #[repr(C)]
-#[derive(Clone, Copy)]
+#[derive(Clone, Copy, Debug, PartialEq, Eq)]
 pub struct Space {
     pub refusal: Refused,
     pub coefficients: [i8; Place::MOST],
@@ -62,7 +68,7 @@ pub struct Space {
 
 // Where a claim's record stands in the sheet, and its bytes.
 #[repr(C)]
-#[derive(Clone, Copy)]
+#[derive(Clone, Copy, Debug, PartialEq, Eq)]
 pub struct Record {
     pub refusal: Refused,
     pub offset: usize,
@@ -71,7 +77,7 @@ pub struct Record {
 
 // 0 refused, 1 kept, 2 broken.
 #[repr(C)]
-#[derive(Clone, Copy)]
+#[derive(Clone, Copy, Debug, PartialEq, Eq)]
 pub struct Paired {
     pub refusal: Refused,
     pub answer: u8,
@@ -80,7 +86,7 @@ pub struct Paired {
 
 // 0 refused, then document 01's four verdicts in their order. The transition is 0 but where the claim is broken.
 #[repr(C)]
-#[derive(Clone, Copy)]
+#[derive(Clone, Copy, Debug, PartialEq, Eq)]
 pub struct Verdict {
     pub refusal: Refused,
     pub answer: u8,
@@ -90,7 +96,7 @@ pub struct Verdict {
 
 // The claim is 0 where no earlier one is a twin.
 #[repr(C)]
-#[derive(Clone, Copy)]
+#[derive(Clone, Copy, Debug, PartialEq, Eq)]
 pub struct Twinned {
     pub refusal: Refused,
     pub claim: usize,
@@ -98,7 +104,7 @@ pub struct Twinned {
 
 // The position is that of the step that is refused, counted from 1; 0 where none is.
 #[repr(C)]
-#[derive(Clone, Copy)]
+#[derive(Clone, Copy, Debug, PartialEq, Eq)]
 pub struct Fired {
     pub refusal: Refused,
     pub position: usize,
@@ -106,159 +112,346 @@ pub struct Fired {
 
 // Number 0 and the text's length, or a refusal's number and its detail. Two words, so that an export needs no hidden pointer to it.
 #[repr(C)]
-#[derive(Clone, Copy)]
+#[derive(Clone, Copy, Debug, PartialEq, Eq)]
 pub struct Written {
     pub number: u8,
     pub value: usize,
 }
 
 impl Refused {
-    fn nothing() -> Refused
-        ensures { result ≡ record { number = 0; detail = 0 } }
-    {
+    const NOTHING: Refused = Refused {
+        number: 0,
+        detail: 0,
+    };
+}
+
+impl From<Refusal> for Refused {
+    ghost use Rattle.std.specs.Prelude.{◌≡◌};
+    ghost use Rattle.numbers.specs.Numbers.{refusal_is};
+
+    ghost from_gives = { λ refusal told. told ≡ refusal_is refusal };
+
+    fn from(refusal: Refusal) -> Refused {
         Refused {
-            number: 0,
-            detail: 0,
+            number: refusal.number(),
+            detail: refusal.detail(),
         }
     }
+}
 
-    fn by(r: Refusal) -> Refused
-        ensures { result ≡ refusal_is r }
-    {
-        let detail = r.value();
-        Refused {
-            number: r.number,
-            detail,
-        }
-    }
+impl From<Result<(), Refusal>> for Refused {
+    ghost use Rattle.std.specs.Prelude.{◌≡◌};
+    ghost use Rattle.numbers.specs.Numbers.{check_is};
 
-    pub fn of_check(c: Check) -> Refused
-        ensures { result ≡ check_is c }
-    {
-        match c {
-            Check::Fine => Refused::nothing(),
-            Check::Refused(r) => Refused::by(r),
-        }
-    }
+    ghost from_gives = { λ check told. told ≡ check_is check };
 
-    pub fn of_pair(a: pairs::Answer) -> Refused
-        ensures { result ≡ pair_refusal a }
-    {
-        match a {
-            pairs::Answer::Kept => Refused::nothing(),
-            pairs::Answer::Broken => Refused::nothing(),
-            pairs::Answer::Refused(r) => Refused::by(r),
-        }
-    }
-
-    pub fn of_verdict(a: judged::Answer) -> Refused
-        ensures { result ≡ verdict_refusal a }
-    {
-        match a {
-            judged::Answer::StartOutside => Refused::nothing(),
-            judged::Answer::TargetInside => Refused::nothing(),
-            judged::Answer::Broken(_) => Refused::nothing(),
-            judged::Answer::Proof => Refused::nothing(),
-            judged::Answer::Refused(r) => Refused::by(r),
+    fn from(check: Result<(), Refusal>) -> Refused {
+        match check {
+            Ok(()) => Refused::NOTHING,
+            Err(refusal) => Refused::from(refusal),
         }
     }
 }
 
 // A refused sheet has no counts.
-pub fn counts_of(answer: Reading) -> Counted
-    ensures { result ≡ reading_is answer }
-{
-    match answer {
-        Reading::Sound(k) => Counted {
-            refusal: Refused::nothing(),
-            places: k.places,
-            transitions: k.transitions,
-            claims: k.claims,
-        },
-        Reading::Malformed(r) => Counted {
-            refusal: Refused::by(r),
-            places: 0,
-            transitions: 0,
-            claims: 0,
-        },
+impl From<Result<Counts, Refusal>> for Counted {
+    ghost use Rattle.std.specs.Prelude.{◌≡◌};
+    ghost use Rattle.numbers.specs.Numbers.{counts_are};
+
+    ghost from_gives = { λ answer told. told ≡ counts_are answer };
+
+    fn from(answer: Result<Counts, Refusal>) -> Counted {
+        match answer {
+            Ok(counts) => Counted {
+                refusal: Refused::NOTHING,
+                places: counts.places,
+                transitions: counts.transitions,
+                claims: counts.claims,
+            },
+            Err(refusal) => Counted {
+                refusal: Refused::from(refusal),
+                places: 0,
+                transitions: 0,
+                claims: 0,
+            },
+        }
     }
 }
 
-pub fn kind_of(k: Kind) -> u8
-    ensures { result ≡ kind_is k }
-{
-    match k {
-        Kind::Exact => 0,
-        Kind::AtOrAbove => 1,
+impl From<Result<Weights, Refusal>> for Weighted {
+    ghost use Rattle.std.specs.Prelude.{◌≡◌};
+    ghost use Rattle.numbers.specs.Numbers.{weights_are};
+
+    ghost from_gives = { λ answer told. told ≡ weights_are answer };
+
+    fn from(answer: Result<Weights, Refusal>) -> Weighted {
+        match answer {
+            Ok(weights) => Weighted {
+                refusal: Refused::NOTHING,
+                taken: weights.taken,
+                put: weights.put,
+            },
+            Err(refusal) => Weighted {
+                refusal: Refused::from(refusal),
+                taken: [0; Place::MOST],
+                put: [0; Place::MOST],
+            },
+        }
     }
 }
 
-pub fn pair_number(a: pairs::Answer) -> u8
-    ensures { result ≡ pair_number a }
-{
-    match a {
-        pairs::Answer::Refused(_) => 0,
-        pairs::Answer::Kept => 1,
-        pairs::Answer::Broken => 2,
+impl From<Result<[u16; Place::MOST], Refusal>> for Tokens {
+    ghost use Rattle.std.specs.Prelude.{◌≡◌};
+    ghost use Rattle.numbers.specs.Numbers.{tokens_are};
+
+    ghost from_gives = { λ answer told. told ≡ tokens_are answer };
+
+    fn from(answer: Result<[u16; Place::MOST], Refusal>) -> Tokens {
+        match answer {
+            Ok(tokens) => Tokens {
+                refusal: Refused::NOTHING,
+                tokens,
+            },
+            Err(refusal) => Tokens {
+                refusal: Refused::from(refusal),
+                tokens: [0; Place::MOST],
+            },
+        }
     }
 }
 
-pub fn verdict_number(a: judged::Answer) -> u8
-    ensures { result ≡ verdict_number a }
-{
-    match a {
-        judged::Answer::Refused(_) => 0,
-        judged::Answer::StartOutside => 1,
-        judged::Answer::TargetInside => 2,
-        judged::Answer::Broken(_) => 3,
-        judged::Answer::Proof => 4,
+impl From<Result<Marking, Refusal>> for Tokens {
+    ghost use Rattle.std.specs.Prelude.{◌≡◌};
+    ghost use Rattle.numbers.specs.Numbers.{marking_is};
+
+    ghost from_gives = { λ answer told. told ≡ marking_is answer };
+
+    fn from(answer: Result<Marking, Refusal>) -> Tokens {
+        Tokens::from(answer.map(|marking| marking.tokens))
     }
 }
 
-pub fn verdict_transition(a: judged::Answer) -> usize
-    ensures { result ≡ verdict_transition a }
-{
-    match a {
-        judged::Answer::StartOutside => 0,
-        judged::Answer::TargetInside => 0,
-        judged::Answer::Broken(t) => t.0,
-        judged::Answer::Proof => 0,
-        judged::Answer::Refused(_) => 0,
+impl From<Result<Goal, Refusal>> for Target {
+    ghost use Rattle.std.specs.Prelude.{◌≡◌};
+    ghost use Rattle.numbers.specs.Numbers.{target_is};
+
+    ghost from_gives = { λ answer told. told ≡ target_is answer };
+
+    fn from(answer: Result<Goal, Refusal>) -> Target {
+        match answer {
+            Ok(target) => Target {
+                refusal: Refused::NOTHING,
+                kind: target.kind as u8,
+                tokens: target.tokens,
+            },
+            Err(refusal) => Target {
+                refusal: Refused::from(refusal),
+                kind: Kind::Exact as u8,
+                tokens: [0; Place::MOST],
+            },
+        }
     }
 }
 
-pub fn twin_number(t: Twin) -> Twinned
-    ensures { result ≡ twin_is t }
-{
-    match t {
-        Twin::First(j) => Twinned {
-            refusal: Refused::nothing(),
-            claim: j.0,
-        },
-        Twin::Without => Twinned {
-            refusal: Refused::nothing(),
-            claim: 0,
-        },
-        Twin::Refused(r) => Twinned {
-            refusal: Refused::by(r),
-            claim: 0,
-        },
+impl From<Result<HalfSpace, Refusal>> for Space {
+    ghost use Rattle.std.specs.Prelude.{◌≡◌};
+    ghost use Rattle.numbers.specs.Numbers.{half_space_is};
+
+    ghost from_gives = { λ answer told. told ≡ half_space_is answer };
+
+    fn from(answer: Result<HalfSpace, Refusal>) -> Space {
+        match answer {
+            Ok(half_space) => Space {
+                refusal: Refused::NOTHING,
+                coefficients: half_space.sixteen(),
+                constant: half_space.constant(),
+            },
+            Err(refusal) => Space {
+                refusal: Refused::from(refusal),
+                coefficients: [0; Place::MOST],
+                constant: 0,
+            },
+        }
     }
 }
 
-pub fn written_number(l: Listed) -> Written
-    ensures { result ≡ listed_is l }
+impl From<Result<Form, Refusal>> for Space {
+    ghost use Rattle.std.specs.Prelude.{◌≡◌};
+    ghost use Rattle.numbers.specs.Numbers.{form_is};
+
+    ghost from_gives = { λ answer told. told ≡ form_is answer };
+
+    fn from(answer: Result<Form, Refusal>) -> Space {
+        match answer {
+            Ok(form) => Space {
+                refusal: Refused::NOTHING,
+                coefficients: form.coefficients,
+                constant: form.constant,
+            },
+            Err(refusal) => Space {
+                refusal: Refused::from(refusal),
+                coefficients: [0; Place::MOST],
+                constant: 0,
+            },
+        }
+    }
+}
+
+impl From<Result<Range<usize>, Refusal>> for Record {
+    ghost use Rattle.std.specs.Prelude.{◌≡◌};
+    ghost use Rattle.numbers.specs.Numbers.{range_is};
+
+    ghost from_gives = { λ answer told. told ≡ range_is answer };
+
+    fn from(answer: Result<Range<usize>, Refusal>) -> Record {
+        match answer {
+            Ok(range) => Record {
+                refusal: Refused::NOTHING,
+                offset: range.start,
+                length: range.len(),
+            },
+            Err(refusal) => Record {
+                refusal: Refused::from(refusal),
+                offset: 0,
+                length: 0,
+            },
+        }
+    }
+}
+
+impl From<Result<Answer, Refusal>> for Paired {
+    ghost use Rattle.std.specs.Prelude.{◌≡◌};
+    ghost use Rattle.numbers.specs.Numbers.{pair_is};
+
+    ghost from_gives = { λ answer told. told ≡ pair_is answer };
+
+    fn from(answer: Result<Answer, Refusal>) -> Paired {
+        match answer {
+            Ok(Answer::Kept) => Paired {
+                refusal: Refused::NOTHING,
+                answer: 1,
+                marking: [0; Place::MOST],
+            },
+            Ok(Answer::Broken(marking)) => Paired {
+                refusal: Refused::NOTHING,
+                answer: 2,
+                marking,
+            },
+            Err(refusal) => Paired {
+                refusal: Refused::from(refusal),
+                answer: 0,
+                marking: [0; Place::MOST],
+            },
+        }
+    }
+}
+
+fn verdict_number(verdict: Judged) -> u8
+    ensures { result ≡ verdict_number verdict }
 {
-    match l {
-        Listed::Written(length) => Written {
-            number: 0,
-            value: length,
-        },
-        Listed::Refused(r) => {
-            let detail = r.value();
-            Written {
-                number: r.number,
-                value: detail,
+    match verdict {
+        Judged::StartOutside => 1,
+        Judged::TargetInside => 2,
+        Judged::Broken(..) => 3,
+        Judged::Proof => 4,
+    }
+}
+
+fn verdict_transition(verdict: Judged) -> usize
+    ensures { result ≡ verdict_transition verdict }
+{
+    match verdict {
+        Judged::Broken(transition, _) => transition.0,
+        Judged::StartOutside | Judged::TargetInside | Judged::Proof => 0,
+    }
+}
+
+impl From<Result<Judged, Refusal>> for Verdict {
+    ghost use Rattle.std.specs.Prelude.{◌≡◌};
+    ghost use Rattle.numbers.specs.Numbers.{verdict_is};
+
+    ghost from_gives = { λ answer told. told ≡ verdict_is answer };
+
+    fn from(answer: Result<Judged, Refusal>) -> Verdict {
+        match answer {
+            Ok(verdict) => Verdict {
+                refusal: Refused::NOTHING,
+                answer: verdict_number(verdict),
+                transition: verdict_transition(verdict),
+                marking: verdict.marking(),
+            },
+            Err(refusal) => Verdict {
+                refusal: Refused::from(refusal),
+                answer: 0,
+                transition: 0,
+                marking: [0; Place::MOST],
+            },
+        }
+    }
+}
+
+impl From<Result<Option<Claim>, Refusal>> for Twinned {
+    ghost use Rattle.std.specs.Prelude.{◌≡◌};
+    ghost use Rattle.numbers.specs.Numbers.{twin_is};
+
+    ghost from_gives = { λ answer told. told ≡ twin_is answer };
+
+    fn from(answer: Result<Option<Claim>, Refusal>) -> Twinned {
+        match answer {
+            Ok(Some(claim)) => Twinned {
+                refusal: Refused::NOTHING,
+                claim: claim.0,
+            },
+            Ok(None) => Twinned {
+                refusal: Refused::NOTHING,
+                claim: 0,
+            },
+            Err(refusal) => Twinned {
+                refusal: Refused::from(refusal),
+                claim: 0,
+            },
+        }
+    }
+}
+
+impl From<Result<(), Halt>> for Fired {
+    ghost use Rattle.std.specs.Prelude.{◌≡◌};
+    ghost use Rattle.numbers.specs.Numbers.{halt_is};
+
+    ghost from_gives = { λ answer told. told ≡ halt_is answer };
+
+    fn from(answer: Result<(), Halt>) -> Fired {
+        match answer {
+            Ok(()) => Fired {
+                refusal: Refused::NOTHING,
+                position: 0,
+            },
+            Err(halt) => Fired {
+                refusal: Refused::from(halt.refusal),
+                position: halt.position,
+            },
+        }
+    }
+}
+
+impl From<Result<usize, Refusal>> for Written {
+    ghost use Rattle.std.specs.Prelude.{◌≡◌};
+    ghost use Rattle.numbers.specs.Numbers.{length_is};
+
+    ghost from_gives = { λ answer told. told ≡ length_is answer };
+
+    fn from(answer: Result<usize, Refusal>) -> Written {
+        match answer {
+            Ok(length) => Written {
+                number: 0,
+                value: length,
+            },
+            Err(refusal) => {
+                let refused = Refused::from(refusal);
+                Written {
+                    number: refused.number,
+                    value: refused.detail,
+                }
             }
         }
     }
