@@ -1,7 +1,7 @@
-// What is counted, with its limits: places, transitions and claims, and the entries of lent areas; and numbers made wider.
+// What is counted, with its limits: places, transitions and claims, and the entries of lent areas.
 #![tactic(auto)]
 
-ghost use Rattle.std.specs.Prelude.{◌≡◌, ◌≤◌, nat_abs};
+ghost use Rattle.std.specs.Prelude.{◌≡◌};
 ghost use Rattle.terms.specs.Limits.{among as is_among, areas_fit};
 
 // Places, transitions and claims are counted apart, each from 1: none is ever taken for another.
@@ -37,7 +37,7 @@ pub fn among(i: usize, count: usize) -> bool
 }
 
 // A work area that judging borrows.
-#[derive(Clone, Copy)]
+#[derive(Clone, Copy, Debug, PartialEq, Eq)]
 pub struct Area {}
 
 impl Area {
@@ -52,7 +52,7 @@ impl Area {
 }
 
 // The area into which a listing is written: the longest has fewer bytes.
-#[derive(Clone, Copy)]
+#[derive(Clone, Copy, Debug, PartialEq, Eq)]
 pub struct Text {}
 
 impl Text {
@@ -60,38 +60,9 @@ impl Text {
 }
 
 // A list of transitions that one call fires.
-#[derive(Clone, Copy)]
+#[derive(Clone, Copy, Debug, PartialEq, Eq)]
 pub struct Firings {}
 
 impl Firings {
     pub const MOST: usize = 64;
-}
-
-// The size of a signed number.
-pub fn size(x: i16) -> u32
-    ensures { result ≡ nat_abs x }
-{
-    let w = x as i32;
-    if w < 0 { (0 - w) as u32 } else { w as u32 }
-}
-
-// A byte, as wide as a number of tokens.
-pub fn wide(x: u8) -> u16
-    ensures { (result ≡ x) × (result ≤ 255) }
-{
-    x as u16
-}
-
-// A byte, as wide as a position.
-pub fn wide8(x: u8) -> usize
-    ensures { result ≡ x }
-{
-    x as usize
-}
-
-// A number of tokens, as wide as a position.
-pub fn wide16(x: u16) -> usize
-    ensures { result ≡ x }
-{
-    x as usize
 }
