@@ -1,6 +1,8 @@
 -- Where the record of a claim stands and what it reads, and that what `claim_record` promises fits one part only.
-use mathlib.Core.Path.{◌≡◌, sym, ap, ap₂, ◌∙◌}
-use mathlib.Core.Bool.{true}
+use Rattle.std.specs.Prelude.{Ok, Err}
+use mathlib.Core.Path.{◌≡◌, refl, sym, ap, ap₂, ◌∙◌}
+use mathlib.Core.Bool.{Bool, true, false}
+use native.Mathlib.Nat.{add-zero}
 use mathlib.Core.List.{List, []}
 use Prim.Native.Nat.{ℕ, ◌+◌, ◌-◌, ◌*◌, ◌≤◌}
 use native.Mathlib.Omega.{arith}
@@ -8,8 +10,13 @@ use lib.ListN.{length, take, drop}
 use denote.Ref.{Bor}
 use Rattle.terms.specs.Limits.{among}
 use Rattle.terms.specs.declared.Claim.{Claim}
-use Rattle.format.specs.Read.{choose}
-use Rattle.format.specs.Contents.{claim}
+use Rattle.refusals.specs.declared.Refusal.{Refusal}
+use Rattle.refusals.specs.declared.Refusal.TheVariants.{NotAClaim}
+use Rattle.format.specs.Read.{Read, choose}
+use Rattle.format.specs.Checked.{checked}
+use Rattle.format.specs.Contents.{Contents, claim, half_space}
+use Rattle.format.proofs.Parts.{never_both}
+use Rattle.claims.specs.Held.{claim_check}
 use Rattle.format.specs.Encoding.{claim_bytes, record_from}
 use Rattle.format.specs.Formed.{IsSheet}
 use Rattle.format.specs.Reading.{reading, size_of, claims_from, claim_size}
@@ -20,6 +27,24 @@ use Rattle.reader.specs.Known.{Known, contents_of}
 use Rattle.reader.proofs.Taken.{among_some, c_is, record_from_lem, record_bytes_lem}
 use Rattle.reader.proofs.Known.{limits, claim_whole}
 use Rattle.claims.specs.Part.{IsPart, record_at, record_bytes}
+
+-- a refused claim's record has length 0, and is said to stand at 0
+pub none_refused : (y : Read Contents) (i : Claim) {r : Refusal} → claim_check y i ≡ Err r → (record_at y i ≡ 0) × (record_bytes y i ≡ [])
+unfolding claim_check
+none_refused (Err q) i e = (refl, refl)
+none_refused (Ok x) i e = by_test (among i.0 (length x.claims)) e
+  where
+    by_test : (t : Bool) {r : Refusal} → checked (choose t (Ok (half_space (claim x i.0))) (Err (NotAClaim i))) ≡ Err r → (choose t (record_from x i.0) 0 ≡ 0) × (choose t (claim_bytes (claim x i.0)) [] ≡ [])
+    by_test true {r} e = absurd (never_both r tt (sym e))
+    by_test false e = (refl, refl)
+
+pub at_start : {part whole : Bor (List ℕ)} (at : ℕ) (bs : List ℕ) → part.ref_ptr ≡ whole.ref_ptr → part.now ≡ [] → at ≡ 0 → bs ≡ [] → IsPart part whole at bs
+at_start {whole} at bs p r e f =
+    record {
+      block = ap (λ (q : ℕ × ℕ). q.0) p;
+      offset = ap (λ (q : ℕ × ℕ). q.1) p ∙ sym (ap (λ (k : ℕ). whole.ref_ptr.1 + k) e ∙ add-zero whole.ref_ptr.1);
+      reads = r ∙ sym f;
+    }
 
 -- the contract leaves one part: the same memory and the same bytes
 pub one_part :

@@ -1,4 +1,4 @@
-use Rattle.std.proofs.Common.{rules, arith, refl, sym, ap, ◌∙◌, ◌≡◌, true, ℕ, ◌+◌, ◌-◌, take, drop, length, length-take-le, length-drop}
+use Rattle.std.proofs.Common.{arith, sym, ap, ◌∙◌, ◌≡◌, true, ◌+◌, ◌-◌, drop, length, length-take-le, length-drop}
 use Rattle.terms.specs.Limits.{among}
 use Rattle.format.proofs.ClaimRecord.{sheet_of}
 use Rattle.reader.specs.Answers.{told}
