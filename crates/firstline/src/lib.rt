@@ -1,39 +1,49 @@
 // The first line of what is printed: the counts, or a refusal.
 #![tactic(auto)]
 
-ghost use Rattle.std.specs.Prelude.{◌+◌, ◌≤◌, length};
+ghost use Rattle.std.specs.Prelude.{◌≤◌, length};
 ghost use Rattle.text.specs.Bytes.{Wrote};
+ghost use Rattle.text.specs.Writing.{Puts, HasRoom};
 ghost use Rattle.firstline.specs.FirstLine.{counts_line, refused_line, refusal_line};
 
 use reader::Counts;
 use refusals::Refusal;
-use text::{labelled, put};
+use text::Writer;
 
-pub fn counts_line(text: &mut [u8], at: usize, counts: Counts) -> usize
-    requires { at + length (counts_line counts.places counts.transitions counts.claims) ≤ length text.old }
-    ensures { Wrote (counts_line counts.places counts.transitions counts.claims) text.old at text.new result }
+pub fn put_counts(writer: &mut Writer, counts: Counts)
+    requires { HasRoom (length (counts_line counts.places counts.transitions counts.claims)) writer.old }
+    ensures { Puts (counts_line counts.places counts.transitions counts.claims) writer.old writer.new }
 {
-    let places = labelled(text, at, b"places ", counts.places);
-    let transitions = labelled(text, places, b" transitions ", counts.transitions);
-    let claims = labelled(text, transitions, b" claims ", counts.claims);
-    put(text, claims, b"\n")
+    writer.put_labelled(b"places ", counts.places);
+    writer.put_labelled(b" transitions ", counts.transitions);
+    writer.put_labelled(b" claims ", counts.claims);
+    writer.put(b"\n");
 }
 
-fn refusal_line(text: &mut [u8], at: usize, number: u8, detail: usize) -> usize
-    requires { at + 36 ≤ length text.old }
-    ensures { Wrote (refused_line number detail) text.old at text.new result }
+// In at most 36 bytes.
+pub fn put_refusal(writer: &mut Writer, number: u8, detail: usize)
+    requires { HasRoom 36 writer.old }
+    ensures { Puts (refused_line number detail) writer.old writer.new }
 {
-    let end = labelled(text, at, b"refused ", number as usize);
-    let last = labelled(text, end, b" at ", detail);
-    put(text, last, b"\n")
+    writer.put_labelled(b"refused ", usize::from(number));
+    writer.put_labelled(b" at ", detail);
+    writer.put(b"\n");
+}
+
+// The line of any number and detail, at the start of a text that is long enough.
+pub fn refused_page(number: u8, detail: usize, text: &mut [u8]) -> usize
+    requires { 4096 ≤ length text.old }
+    ensures { Wrote (refused_line number detail) text.old 0 text.new result }
+{
+    let mut writer = Writer::new(text);
+    put_refusal(&mut writer, number, detail);
+    writer.len()
 }
 
 // The line of a refusal, at the start of a text that is long enough.
-pub fn refusal_page(r: Refusal, text: &mut [u8]) -> usize
+pub fn refusal_page(refusal: Refusal, text: &mut [u8]) -> usize
     requires { 4096 ≤ length text.old }
-    ensures { Wrote (refusal_line r) text.old 0 text.new result }
+    ensures { Wrote (refusal_line refusal) text.old 0 text.new result }
 {
-    let number = r.number;
-    let detail = r.value();
-    refusal_line(text, 0, number, detail)
+    refused_page(refusal.number(), refusal.detail(), text)
 }

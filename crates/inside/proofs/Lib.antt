@@ -1,3 +1,2 @@
 pub mod Rows
 pub mod Targets
-pub mod Said

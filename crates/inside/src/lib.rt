@@ -1,37 +1,32 @@
 // Do the start, or some target marking, lie inside?
 #![tactic(auto)]
 
-ghost use Rattle.std.specs.Prelude.{◌≡◌, ◌+◌, ◌*◌, ◌≤◌, length, take};
+ghost use Rattle.std.specs.Prelude.{◌≡◌, ◌↔◌, IsTrue, length};
 ghost use Rattle.nets.specs.HalfSpaces.{Inside};
 ghost use Rattle.nets.specs.Verdicts.{Setting, TargetInside};
-ghost use Rattle.format.specs.Reading.{words, target_in};
-ghost use Rattle.values.specs.Ready.{space};
-ghost use Rattle.tables.specs.Told.{Says};
+ghost use Rattle.reader.specs.Targets.{target_shown};
 
-use rows::tokens_from;
+use amounts::Kind;
+use reader::Target;
 use tables::signs::some_above;
-use terms::Place;
-use values::value_of;
+use values::HalfSpace;
 
-// The marking whose n numbers of tokens stand from a byte on.
-pub fn inside_at(k: [i8; Place::MOST], c: i16, sheet: &[u8], at: usize, n: usize) -> bool
-    requires { (n ≤ 16) × (at + 2 * n ≤ length sheet.now) }
-    ensures { Says result (Inside (space (take n k) c) (words sheet.now at n)) }
+// Does a marking lie inside?
+#[tactic(auto, unfolding(nets::specs::HalfSpaces::Inside))]
+pub fn is_inside(half_space: &HalfSpace, tokens: &[u16]) -> bool
+    requires { length tokens.now ≡ length half_space.now.coefficients }
+    ensures { IsTrue result ↔ Inside half_space.now tokens.now }
 {
-    let tokens = tokens_from(sheet, at, n);
-    (c as i32) <= value_of(k, tokens)
+    i32::from(half_space.constant()) <= half_space.value(tokens)
 }
 
-// Some marking of the target whose record starts at a byte: the written one, or for kind 1 one above it.
-pub fn target_inside(k: [i8; Place::MOST], c: i16, sheet: &[u8], at: usize, n: usize) -> bool
-    requires { (n ≤ 16) × (at + 3 + 2 * n ≤ length sheet.now) }
-    ensures { (q : Setting) → q.target ≡ target_in sheet.now n at → Says result (TargetInside q (space (take n k) c)) }
+// Does some marking of the target: the written one, or for kind 1 one above it?
+pub fn target_inside(half_space: &HalfSpace, target: Target) -> bool
+    ensures { (q : Setting) → target ≡ target_shown q.target → length q.target.tokens ≡ length half_space.now.coefficients → (IsTrue result ↔ TargetInside q half_space.now) }
 {
-    if inside_at(k, c, sheet, at + 3, n) {
-        return true;
+    let written = is_inside(half_space, &target.tokens[..half_space.places()]);
+    match target.kind {
+        Kind::Exact => written,
+        Kind::AtOrAbove => written || some_above(half_space.coefficients()),
     }
-    if sheet[at + 2] == 0 {
-        return false;
-    }
-    some_above(&k[..n])
 }

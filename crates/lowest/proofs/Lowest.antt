@@ -1,5 +1,6 @@
 -- The lowest transition that breaks a half space: those before it were found to keep it, one after the other.
-use mathlib.Core.Path.{◌≡◌, refl, subst}
+use mathlib.Core.Path.{◌≡◌, refl}
+use Rattle.std.specs.Prelude.{Some, None}
 use mathlib.Core.Bool.{Bool, true, false}
 use mathlib.Core.List.{List, [], ◌∷◌}
 use Prim.Native.Nat.{ℕ, zero, suc, ◌+◌, ◌≤◌, ◌<◌}
@@ -17,30 +18,28 @@ use Rattle.remainders.specs.Sums.{sizes, Within}
 use Rattle.values.proofs.Bounds.{coefficient_range}
 use Rattle.lowest.specs.Lowest.{FirstBroken}
 
--- the first t transitions keep it
+-- the transitions below t keep it
 abbrev pub KeptTo : Net → HalfSpace → ℕ → Type 0
-KeptTo N h t = (u : ℕ) → 1 ≤ u → u ≤ t → Kept h (transition N u)
+KeptTo N h t = (u : ℕ) → 1 ≤ u → u < t → Kept h (transition N u)
 
-pub none_yet : (N : Net) (h : HalfSpace) → KeptTo N h 0
+pub none_yet : (N : Net) (h : HalfSpace) → KeptTo N h 1
 none_yet N h u a b = absurd (omega arith)
 
-pub one_more : (N : Net) (h : HalfSpace) (t : ℕ) → KeptTo N h t → Kept h (transition N (t + 1)) → KeptTo N h (t + 1)
-one_more N h t k l u a b = by (leb u t) refl
+pub one_more : (N : Net) (h : HalfSpace) (t : ℕ) → KeptTo N h t → Kept h (transition N t) → KeptTo N h (t + 1)
+one_more N h t k l u a b = by (leb t u) refl
   where
-    by : (f : Bool) → leb u t ≡ f → Kept h (transition N u)
-    by true e = k u a (leb-true u t e)
-    by false e = let last : u ≡ t + 1 = omega (arith, leb-false u t e) in rw last l
+    by : (f : Bool) → leb t u ≡ f → Kept h (transition N u)
+    by true e = let last : u ≡ t = omega (arith, leb-true t u e) in rw last l
+    by false e = k u a (omega (arith, leb-false t u e))
 
 module _ (N : Net) (h : HalfSpace) (t : ℕ) (k : KeptTo N h t) where
-  pub all_kept : length N.transitions ≤ t → FirstBroken N h 0
+  pub all_kept : length N.transitions < t → FirstBroken N h None
   unfolding IsTransition
   all_kept l u i = k u i.0 (omega (arith, i.1))
 
-  pub found_so : t < length N.transitions → Broken h (transition N (t + 1)) → FirstBroken N h (t + 1)
+  pub found_so : 1 ≤ t → t ≤ length N.transitions → Broken h (transition N t) → FirstBroken N h (Some (record { 0 = t }))
   unfolding IsTransition
-  found_so l b =
-      let next : suc t ≡ t + 1 = omega arith in
-      subst (FirstBroken N h) next ((omega arith, omega arith), rw next b, (λ u i m. k u i.0 (omega arith)))
+  found_so a l b = ((a, l), b, (λ u i m. k u i.0 m))
 
 -- coefficients within their range have sizes of at most 100
 pub within : (ks : List ℤ) → All IsCoefficient ks → Within (sizes ks)

@@ -1,66 +1,44 @@
 // The lowest transition that breaks a half space.
 #![tactic(auto)]
 
-ghost use Rattle.std.specs.Prelude.{◌≡◌, ◌≤◌, length, take, Ok};
-ghost use Rattle.format.specs.Contents.{Contents};
-ghost use Rattle.format.specs.Formed.{Row, IsCoefficient};
-ghost use Rattle.format.specs.Reading.{reading, transition_in};
+ghost use Rattle.std.specs.Prelude.{◌≡◌, ◌≤◌, length};
 ghost use Rattle.tables.specs.Told.{Told};
 ghost use Rattle.residues.specs.Asked.{IsBroken};
-ghost use Rattle.values.specs.Range.{Constants};
-ghost use Rattle.values.specs.Ready.{Ready, space};
-ghost use Rattle.known.specs.Known.{Known};
 ghost use Rattle.lowest.specs.Lowest.{FirstBroken};
 
-use layout::behind_transitions;
-use reader::Counts;
+use reader::Sheet;
 use residues::breaks;
-use tables::{Reach, table_of};
-use terms::Place;
-use values::value_at;
+use tables::{Values, table_of};
+use terms::Transition;
+use values::{Arcs, HalfSpace};
 
-// Does the transition whose record starts at a byte break it?
-fn breaks_at(
-    reach: Reach,
-    table: &[u16],
-    k: [i8; Place::MOST],
-    c: i16,
-    sheet: &[u8],
-    n: usize,
-    at: usize,
-) -> bool
-    requires ready { Ready (take n k) c sheet.now n at }
-    requires told { Told (take n k) reach table.now }
-    requires in_bounds { 100 ≤ length table.now }
-    ensures { IsBroken result (space (take n k) c) (transition_in sheet.now n at) }
+// Does a transition break it? What the coefficients alone say is told.
+fn is_broken(half_space: &HalfSpace, values: Values<'_>, arcs: &Arcs<'_>) -> bool
+    requires places { length arcs.now.taken ≡ length half_space.now.coefficients }
+    requires told { Told half_space.now.coefficients values }
+    ensures { IsBroken result half_space.now arcs.now }
 {
-    let a = value_at(k, sheet, at + 2, n);
-    let b = value_at(k, sheet, at + 2 + n, n);
-    breaks(reach, table, c, a, b)
+    let taken = half_space.value_taken(arcs);
+    let put = half_space.value_put(arcs);
+    breaks(values, half_space.constant(), taken, put)
 }
 
-// The number of the lowest transition that breaks it, and 0 where every one keeps it. What the coefficients alone say is worked out once.
+// The lowest transition that breaks it, if one does. What the coefficients alone say is worked out once.
+#[tactic(auto, using(crate::proofs::Lowest::within, crate::proofs::Lowest::none_yet, crate::proofs::Lowest::one_more, crate::proofs::Lowest::all_kept, crate::proofs::Lowest::found_so))]
 pub fn first_broken(
-    k: [i8; Place::MOST],
-    c: i16,
-    sheet: &[u8],
-    counts: Counts,
+    half_space: &HalfSpace,
+    sheet: &Sheet<'_>,
     table: &mut [u16],
-) -> usize
-    requires known { Known sheet.now counts }
-    requires row { Row counts.places IsCoefficient (take counts.places k) × Constants c }
+) -> Option<Transition>
+    requires places { length half_space.now.coefficients ≡ sheet.now.setting.net.places }
     requires in_bounds { 100 ≤ length table.old }
-    ensures { (x : Contents) → reading sheet.now ≡ Ok x → FirstBroken x.setting.net (space (take counts.places k) c) result }
+    ensures { FirstBroken sheet.now.setting.net half_space.now result }
 {
-    let n = counts.places;
-    let reach = table_of(k, n, table);
-    let mut t = 0;
-    while t < counts.transitions {
-        let at = behind_transitions(n, t);
-        t += 1;
-        if breaks_at(reach, table, k, c, sheet, n, at) {
-            return t;
+    let values = table_of(half_space.coefficients(), table);
+    for number in 1..=sheet.counts().transitions {
+        if is_broken(half_space, values, &sheet.nth_arcs(number)) {
+            return Some(Transition(number));
         }
     }
-    0
+    None
 }

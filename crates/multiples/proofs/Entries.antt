@@ -1,14 +1,13 @@
 -- The number at a place of a claim: a coefficient, or behind them the constant. The first that isn't zero is a pivot, and so is the constant where no coefficient is one.
-use mathlib.Core.Path.{◌≡◌, sym, ap, ◌∙◌}
+use mathlib.Core.Path.{◌≡◌, refl, sym, ap, ◌∙◌}
 use mathlib.Core.List.{List, [], ◌∷◌}
-use Prim.Native.Nat.{ℕ, ◌≤◌, ◌<◌}
+use Prim.Native.Nat.{ℕ, suc, ◌<◌}
 use native.Mathlib.Omega.{arith}
 use lib.IntN.{ℤ, pos, negsuc, nat_abs}
-use lib.ListN.{length, get_or, take, length-take, get_or-append}
-use lib.Seq.{get_or_at, get_or-take}
+use lib.ListN.{length, get_or, get_or-append}
+use lib.Seq.{get_or_at}
 use Rattle.nets.specs.HalfSpaces.{HalfSpace}
 use Rattle.nets.specs.Reduced.{EachOf, divided_by, AllZero}
-use Rattle.reduction.specs.Divisors.{space_of}
 use Rattle.multiples.specs.Multiples.{entry, IsPivot}
 use Rattle.reduction.proofs.Common.{each_append}
 use Rattle.multiples.proofs.Scaled.{IsZero}
@@ -25,20 +24,25 @@ no_size : (z : ℤ) → nat_abs z ≡ 0 → z ≡ pos 0
 no_size (pos n) e = ap pos (omega arith)
 no_size (negsuc n) e = absurd (omega arith)
 
-module _ (n : ℕ) (k : List ℤ) (c : ℤ) (l : n ≤ length k) (s : ℕ) where
-  pub pivot_row : (p : ℕ) → p < n → s ≡ nat_abs (get_or k p (pos 0)) → (get_or k p (pos 0) ≡ pos 0 → ⊥) → IsPivot (space_of n k c) p s
-  pivot_row p m e some =
+module _ (k : List ℤ) (c : ℤ) (s : ℕ) where
+  pub pivot_row : (p : ℕ) → p < length k → s ≡ nat_abs (get_or k p (pos 0)) → (get_or k p (pos 0) ≡ pos 0 → ⊥) → IsPivot (record { coefficients = k; constant = c }) p s
+  pivot_row p l e some =
       record {
-        within = simp length-take (omega arith);
-        size_there = e ∙ ap nat_abs (sym (entry_row (space_of n k c) p (simp length-take (omega arith)) ∙ get_or-take n k p (pos 0) m));
+        within = omega arith;
+        size_there = e ∙ ap nat_abs (sym (entry_row (record { coefficients = k; constant = c }) p l));
         zero_only = λ z. absurd (some (no_size (get_or k p (pos 0)) (sym e ∙ z)));
       }
 
-  pub pivot_constant : s ≡ nat_abs c → EachOf IsZero (take n k) → IsPivot (space_of n k c) n s
+  pub pivot_constant : s ≡ nat_abs c → EachOf IsZero k → IsPivot (record { coefficients = k; constant = c }) (length k) s
   unfolding AllZero divided_by EachOf
   pivot_constant e zeros =
       record {
-        within = simp length-take (omega arith);
-        size_there = e ∙ ap nat_abs (sym (entry-constant (space_of n k c) n (simp length-take (omega arith))));
-        zero_only = λ z. each_append IsZero (take n k) (c ∷ []) zeros (no_size c (sym e ∙ z), tt);
+        within = omega arith;
+        size_there = e ∙ ap nat_abs (sym (entry-constant (record { coefficients = k; constant = c }) (length k) refl));
+        zero_only = λ z. each_append IsZero k (c ∷ []) zeros (no_size c (sym e ∙ z), tt);
       }
+
+pub zeros_within : (k : List ℤ) → ((p : ℕ) → p < length k → get_or k p (pos 0) ≡ pos 0) → EachOf IsZero k
+unfolding EachOf
+zeros_within [] z = tt
+zeros_within (x ∷ k) z = (z 0 (omega arith), zeros_within k (λ p l. z (suc p) (omega arith)))

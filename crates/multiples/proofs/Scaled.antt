@@ -1,7 +1,8 @@
 -- A claim has the reduced form r of another exactly if it is a whole number of times r: where r is d times as small as w, the divisor of w is d, because that of r is one.
 use mathlib.Core.Path.{◌≡◌, refl, sym, ap, ap₂, ◌∙◌, subst}
-use mathlib.Core.Logic.{inl, inr}
-use mathlib.Core.Bool.{Bool, true, false}
+use mathlib.Core.Logic.{◌↔◌, inl, inr}
+use Rattle.std.specs.Prelude.{IsTrue}
+use mathlib.Core.Bool.{Bool}
 use mathlib.Core.List.{List, [], ◌∷◌, ◌++◌, map-append}
 use Prim.Native.Nat.{ℕ, zero, suc, ◌*◌, ◌/◌, ◌∣◌, ◌≤◌}
 use native.Mathlib.Nat.{le_of_dvd, mul-div_cancel', mul-div_cancel_left, le_of_mul-le-mul_right, mul-le-mul_right}
@@ -14,7 +15,7 @@ use Rattle.nets.specs.Reduced.{EachOf, Divides, IsDivisor, divided_by, AllZero, 
 use Rattle.nets.proofs.ReducedForm.{divisor_above_zero, same_factor, twins_of_one}
 use Rattle.reduction.proofs.Common.{abs_times, each_so, some_common, zero_divides, each_left, each_right}
 use Rattle.reduction.proofs.Scaled.{times, times-one}
-use Rattle.multiples.specs.Multiples.{IsTimes, IsMultiple, IsPivot, Tells, entry, factor_of}
+use Rattle.multiples.specs.Multiples.{IsTimes, IsMultiple, IsPivot, entry, factor_of}
 
 abbrev pub IsZero : ℤ → Type 0
 IsZero z = z ≡ pos 0
@@ -131,9 +132,8 @@ module _ (h w r : HalfSpace) (a : IsReduced h r) where
   unfolding Twins
   multiple_twins m = (r, a, multiple_reduced h w r a m)
 
-  pub told_twins : (t : Bool) → Tells t (IsMultiple w r) → Tells t (Twins h w)
-  told_twins true m = multiple_twins m
-  told_twins false m = λ t. m (twins_multiple t)
+  pub told_twins : (t : Bool) → (IsTrue t ↔ IsMultiple w r) → (IsTrue t ↔ Twins h w)
+  told_twins t m = ((λ e. multiple_twins (m.0 e)), (λ w. m.1 (twins_multiple w)))
 
 -- the number of times shows at the pivot
 pub times_at : (d : ℕ) (zs : List ℤ) (p : ℕ) → get_or (times d zs) p (pos 0) ≡ get_or zs p (pos 0) *ℤ pos d
@@ -168,7 +168,6 @@ module _ (w r : HalfSpace) (p y d : ℕ) (v : IsPivot r p y) (e : d ≡ factor_o
   pub other_constant : (w.constant ≡ r.constant *ℤ pos d → ⊥) → IsMultiple w r → ⊥
   other_constant differs m = differs (at_this m).constant
 
-  pub by_row : (t : Bool) → 1 ≤ d → w.constant ≡ r.constant *ℤ pos d → Tells t (w.coefficients ≡ times d r.coefficients) → Tells t (IsMultiple w r)
+  pub by_row : (t : Bool) → 1 ≤ d → w.constant ≡ r.constant *ℤ pos d → (IsTrue t ↔ (w.coefficients ≡ times d r.coefficients)) → (IsTrue t ↔ IsMultiple w r)
   unfolding IsMultiple
-  by_row true l c k = (d, record { some = l; coefficients = k; constant = c })
-  by_row false l c k = λ m. k (at_this m).coefficients
+  by_row t l c k = ((λ e. (d, record { some = l; coefficients = k.0 e; constant = c })), (λ m. k.1 (at_this m).coefficients))

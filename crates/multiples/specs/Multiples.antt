@@ -1,5 +1,5 @@
 -- A claim that is a whole number of times another, and how that number is found: at one place that isn't zero.
-use Rattle.std.specs.Prelude.{◌≡◌, Bool, true, false, map, ℕ, zero, suc, ◌/◌, ◌≤◌, ℤ, pos, nat_abs, ◌*ℤ◌, length, get_or}
+use Rattle.std.specs.Prelude.{◌≡◌, map, ℕ, zero, suc, ◌/◌, ◌≤◌, ℤ, pos, nat_abs, ◌*ℤ◌, length, get_or}
 use Rattle.nets.specs.HalfSpaces.{HalfSpace}
 use Rattle.nets.specs.Reduced.{divided_by, AllZero}
 
@@ -11,11 +11,6 @@ pub record IsTimes (d : ℕ) (w r : HalfSpace) : Type 0 where
 
 unfoldable pub IsMultiple : HalfSpace → HalfSpace → Type 0
 IsMultiple w r = (d : ℕ) × IsTimes d w r
-
--- a test's answer: true exactly if A holds
-abbrev pub Tells : Bool → Type 0 → Type 0
-Tells true A = A
-Tells false A = A → ⊥
 
 -- the number at a place of a claim, counted from 0, the constant behind the coefficients
 abbrev pub entry : HalfSpace → ℕ → ℤ

@@ -1,107 +1,85 @@
 // Is a claim of the sheet a whole number of times a reduced form? No divisor is searched for: the number shows at one place.
 #![tactic(auto)]
 
-ghost use Rattle.std.specs.Prelude.{◌≡◌, map, ◌+◌, ◌≤◌, ℤ, pos, nat_abs, ◌*ℤ◌, length, take};
-ghost use Rattle.signed.specs.Twos.{twos8};
-ghost use Rattle.format.specs.Reading.{bytes, claim_in};
+ghost use Rattle.std.specs.Prelude.{◌≡◌, ◌↔◌, IsTrue, map, ℤ, pos, nat_abs, ◌*ℤ◌, ◌≤◌, length};
 ghost use Rattle.reduction.specs.Divisors.{space_of};
-ghost use Rattle.multiples.specs.Multiples.{IsMultiple, Tells, entry, IsPivot, factor_of};
+ghost use Rattle.multiples.specs.Multiples.{IsMultiple, entry, IsPivot, factor_of};
 
-use amounts::{Coefficient, Constant};
 use reduction::Form;
-use reduction::euclid::wide;
-use terms::{Place, size};
+use values::HalfSpace;
 
-// A place of a form where it isn't zero, counted from 0 with the constant at n, and the size of the number there.
-#[derive(Clone, Copy)]
+// A place of a form where it isn't zero, counted from 0 with the constant behind the coefficients, and the size of the number there.
+#[derive(Clone, Copy, Debug, PartialEq, Eq)]
 pub struct Pivot {
     pub place: usize,
-    pub size: u32,
+    pub size: u16,
 }
 
 // The first place that isn't zero, or the constant's.
-pub fn pivot_of(k: [i8; Place::MOST], n: usize, c: i16) -> Pivot
-    requires { n ≤ 16 }
-    ensures { IsPivot (space_of n k c) result.place result.size }
+pub fn pivot_of(k: &[i8], c: i16) -> Pivot
+    ensures { IsPivot (record { coefficients = k.now; constant = c }) result.place result.size }
 {
-    for place in 0..n {
-        let z = k[place];
-        if z != 0 {
-            return Pivot {
-                place,
-                size: size(wide(z)),
-            };
-        }
-    }
-    Pivot {
-        place: n,
-        size: size(c),
+    match k.iter().position(|z| *z != 0) {
+        Some(place) => Pivot {
+            place,
+            size: u16::from(k[place].unsigned_abs()),
+        },
+        None => Pivot {
+            place: k.len(),
+            size: c.unsigned_abs(),
+        },
     }
 }
 
-// The size of the number at a place of the claim whose record starts at a byte.
-fn size_in(sheet: &[u8], at: usize, n: usize, p: usize) -> u32
-    requires { (n ≤ 16) × (p ≤ n) × (at + 4 + n ≤ length sheet.now) }
-    ensures { (result ≡ nat_abs (entry (claim_in sheet.now n at) p)) × (result ≤ 32768) }
+// The size of the number at a place of a claim.
+fn size_in(claim: &HalfSpace, place: usize) -> u16
+    requires { place ≤ length claim.now.coefficients }
+    ensures { result ≡ nat_abs (entry claim.now place) }
 {
-    if p < n {
-        let k = Coefficient::of_byte(sheet[at + 2 + p]);
-        let z = k.0;
-        return size(wide(z));
+    let coefficients = claim.coefficients();
+    if place < coefficients.len() {
+        u16::from(coefficients[place].unsigned_abs())
+    } else {
+        claim.constant().unsigned_abs()
     }
-    let c = Constant::of_bytes(sheet[at + 2 + n], sheet[at + 3 + n]);
-    size(c.0)
 }
 
 // How often y goes into x; once where y is zero.
-fn factor(x: u32, y: u32) -> u32
-    requires { x ≤ 32768 }
-    ensures { (result ≡ factor_of x y) × (result ≤ 32768) }
+fn factor(x: u16, y: u16) -> u16
+    ensures { result ≡ factor_of x y }
 {
-    if y == 0 { 1 } else { x / y }
+    x.checked_div(y).unwrap_or(1)
 }
 
 // Is x exactly d times y? The product fits 32 bits, so nothing of it is lost.
-fn is_times(x: i16, y: i16, d: u32) -> bool
-    requires { d ≤ 32768 }
-    ensures { Tells result (x ≡ y *ℤ pos d) }
+fn is_times(x: i16, y: i16, d: u16) -> bool
+    ensures { IsTrue result ↔ (x ≡ y *ℤ pos d) }
 {
-    let v = x as i32;
-    let w = y as i32;
-    let t = d as i32;
-    v == w * t
+    i32::from(x) == i32::from(y) * i32::from(d)
 }
 
-// Are n coefficients that stand in a sheet, from a byte on, d times these?
-fn row_is_times(sheet: &[u8], at: usize, n: usize, k: [i8; Place::MOST], d: u32) -> bool
-    requires { (n ≤ 16) × (d ≤ 32768) × (at + n ≤ length sheet.now) }
-    ensures { Tells result (map twos8 (bytes sheet.now at n) ≡ map (λ (z : ℤ). z *ℤ pos d) (take n k)) }
+// Are the coefficients of one row d times those of another?
+fn row_is_times(row: &[i8], k: &[i8], d: u16) -> bool
+    requires { length row.now ≡ length k.now }
+    ensures { IsTrue result ↔ (row.now ≡ map (λ (z : ℤ). z *ℤ pos d) k.now) }
 {
-    for p in 0..n {
-        let b = Coefficient::of_byte(sheet[at + p]);
-        let x = b.0;
-        let y = k[p];
-        if !is_times(wide(x), wide(y), d) {
-            return false;
-        }
-    }
-    true
+    row.iter()
+        .zip(k)
+        .all(|(y, z)| is_times(i16::from(*y), i16::from(*z), d))
 }
 
-// Is the claim whose record starts at a byte a number of times this form? The constant is tested first: claims that share
-// their coefficients differ there.
-pub fn is_multiple(sheet: &[u8], at: usize, n: usize, form: Form, pivot: Pivot) -> bool
-    requires { (n ≤ 16) × (at + 4 + n ≤ length sheet.now) × IsPivot (space_of n form.coefficients form.constant) pivot.place pivot.size }
-    ensures { Tells result (IsMultiple (claim_in sheet.now n at) (space_of n form.coefficients form.constant)) }
+// Is the claim a number of times this form? The constant is tested first: claims that share their coefficients differ there.
+pub fn is_multiple(claim: &HalfSpace, form: &Form, pivot: Pivot) -> bool
+    requires { IsPivot (space_of (length claim.now.coefficients) form.now.coefficients form.now.constant) pivot.place pivot.size }
+    ensures { IsTrue result ↔ IsMultiple claim.now (space_of (length claim.now.coefficients) form.now.coefficients form.now.constant) }
 {
-    let d = factor(size_in(sheet, at, n, pivot.place), pivot.size);
+    let d = factor(size_in(claim, pivot.place), pivot.size);
     if d == 0 {
         return false;
     }
-    let c = Constant::of_bytes(sheet[at + 2 + n], sheet[at + 3 + n]);
-    if !is_times(c.0, form.constant, d) {
+    if !is_times(claim.constant(), form.constant, d) {
         return false;
     }
-    let k = form.coefficients;
-    row_is_times(sheet, at + 2, n, k, d)
+    let coefficients = claim.coefficients();
+    row_is_times(coefficients, &form.coefficients[..coefficients.len()], d)
 }

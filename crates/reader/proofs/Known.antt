@@ -77,7 +77,7 @@ module _ (s : List ℕ) (k : Counts) (q : Known s k) where
     target_is = target_taken s x k there q.counts at is
 
   module _ (bytes-only : IsSheet s) where
-    well : Formed x
+    pub well : Formed x
     well = formed s x bytes-only q.is_read
 
     places_is : x.setting.net.places ≡ k.places

@@ -52,6 +52,7 @@ impl<'a> Sheet<'a> {
     ghost use Rattle.nets.specs.Nets.{transition};
     ghost use Rattle.nets.specs.HalfSpaces.{sixteen};
     ghost use Rattle.format.specs.Contents.{half_space, claim};
+    ghost use Rattle.format.specs.Formed.{Formed};
     ghost use Rattle.format.specs.Reading.{reading};
     ghost use Rattle.reader.specs.Answers.{counts_of};
     ghost use Rattle.reader.specs.Numbered.{claim_numbered, transition_numbered};
@@ -69,8 +70,10 @@ impl<'a> Sheet<'a> {
         })
     }
 
+    // And all that it holds is within the limits.
     pub fn counts(&self) -> Counts
-        ensures { result ≡ counts_of self.now }
+        ensures value { result ≡ counts_of self.now }
+        ensures formed { Formed self.now }
     {
         Counts {
             places: self.extent.places,
@@ -88,7 +91,8 @@ impl<'a> Sheet<'a> {
     }
 
     pub fn target(&self) -> Target
-        ensures { result ≡ target_shown self.now.setting.target }
+        ensures value { result ≡ target_shown self.now.setting.target }
+        ensures places { length self.now.setting.target.tokens ≡ self.now.setting.net.places }
     {
         let at = self.extent.target_from();
         Target {

@@ -99,6 +99,7 @@ impl HalfSpace {
     pub fn value_put(&self, arcs: &Arcs<'_>) -> i32
         requires { length arcs.now.taken ≡ length self.now.coefficients }
         ensures value { result ≡ value self.now.coefficients arcs.now.put }
+        ensures places { length arcs.now.put ≡ length self.now.coefficients }
         ensures range { Values result }
     {
         let coefficients = self.coefficients();
@@ -138,6 +139,7 @@ impl<'a> Arcs<'a> {
 
     pub fn taken(&self) -> &'a [u8]
         ensures value { result.now ≡ self.now.taken }
+        ensures places { length self.now.put ≡ length result.now }
         ensures most { length result.now ≤ 16 }
         ensures fit { All IsWeight result.now }
     {

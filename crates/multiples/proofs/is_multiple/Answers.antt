@@ -1,63 +1,57 @@
 -- `is_multiple` meets its contract: a multiple is one at the number that the pivot shows, so the constant and the row decide at that number.
-use mathlib.Core.Path.{◌≡◌, ap, ◌∙◌, subst}
-use mathlib.Core.Bool.{Bool, true, false}
-use Prim.Native.Nat.{ℕ, ◌+◌}
+use mathlib.Core.Path.{◌≡◌, sym, ap, ◌∙◌}
+use mathlib.Core.Logic.{◌↔◌}
 use native.Mathlib.Omega.{arith}
-use lib.IntN.{ℤ, pos, nat_abs, ◌*ℤ◌}
+use Prim.Native.Nat.{ℕ}
+use lib.IntN.{pos, nat_abs, ◌*ℤ◌}
+use lib.ListN.{length}
 use mir.Syntax.{w16}
-use mir.Val.{SFits, to_z, of_z}
-use mir.Facts.{to_z-of_z}
-use borrow.Author.Tests.{not-true, not-false}
-use Rattle.signed.specs.Twos.{twos16}
-use Rattle.format.specs.Reading.{byte, claim_in}
+use mir.Val.{to_z, of_z}
+use Rattle.std.specs.Prelude.{IsTrue}
+use Rattle.std.proofs.lemmas.Int.{ints}
+use Rattle.std.proofs.lemmas.Bool.{false≢true}
+use Rattle.nets.specs.HalfSpaces.{HalfSpace}
 use Rattle.reduction.specs.Divisors.{space_of}
-use Rattle.multiples.specs.Multiples.{Tells, entry, factor_of}
+use Rattle.reduction.proofs.Scaled.{times}
+use Rattle.multiples.specs.Multiples.{entry, factor_of}
 use Rattle.multiples.proofs.Scaled.{no_factor, other_constant, by_row}
-use borrow.Author.Rules.{rules}
 use Rattle.multiples.proofs.is_multiple.Goals as goal
+use Rattle.multiples.proofs.is_multiple.Goals.{After-factor-d, After-is_times}
+
+factor_is : (c : After-factor-d) → c.factor-d.result ≡ factor_of (nat_abs (entry c.args.claim.now c.args.pivot.place)) c.args.pivot.size
+factor_is c = c.factor-d.ensures ∙ ap (λ (x : ℕ). factor_of x c.args.pivot.size) c.size_in.ensures
+
+-- the test of the constant
+constant_told : (c : After-is_times) → IsTrue c.is_times.result ↔ (c.args.claim.now.constant ≡ c.args.form.now.constant *ℤ pos c.factor-d.result)
+constant_told c =
+    let theirs : to_z w16 (of_z w16 c.constant.result) ≡ c.constant.result = omega (arith, ints) in
+    let ours : to_z w16 (of_z w16 c.args.form.now.constant) ≡ c.args.form.now.constant = omega (arith, ints) in
+    rw ours at (rw (theirs ∙ c.constant.ensures.value) at c.is_times.ensures)
 
 pub returns-then-d-eq0 : goal.returns-then-d-eq0
 returns-then-d-eq0 c =
     let a = c.args in
-    let v = c.requires.2 in
-    let f = c.factor-d in
-    let d : f.result ≡ factor_of (nat_abs (entry (claim_in a.sheet.now a.n a.at) a.pivot.place)) a.pivot.size = f.ensures.0 ∙ ap (λ (x : ℕ). factor_of x a.pivot.size) c.size_in.ensures.0 in
-    no_factor (claim_in a.sheet.now a.n a.at) (space_of a.n a.form.coefficients a.form.constant) a.pivot.place a.pivot.size f.result v d c.if-d-eq0.true
+    let w : HalfSpace = a.claim.now in
+    let d = factor_is (goal.at.returns-then-d-eq0 c).After-factor-d in
+    (λ e. absurd (false≢true e), λ m. absurd (no_factor w (space_of (length w.coefficients) a.form.now.coefficients a.form.now.constant) a.pivot.place a.pivot.size c.factor-d.result c.requires d c.if-d-eq0.true m))
 
 pub returns-then-not-is_times : goal.returns-then-not-is_times
 returns-then-not-is_times c =
-    let told : (t : Bool) → c.is_times.result ≡ t → Tells t ((claim_in c.args.sheet.now c.args.n c.args.at).constant ≡ c.args.form.constant *ℤ pos c.factor-d.result) = λ t e. let a = c.args in
-    let f = c.factor-d in
-    let b = c.of_bytes-c in
-    let given : Tells c.is_times.result (to_z w16 (of_z w16 b.result.0) ≡ to_z w16 (of_z w16 a.form.constant) *ℤ pos f.result) = c.is_times.ensures in
-    let fits : SFits w16 b.result.0 = search rules in
-    let theirs : SFits w16 a.form.constant = search rules in
-    let next : a.at + 3 + a.n ≡ a.at + 2 + a.n + 1 = omega arith in
-    let x : to_z w16 (of_z w16 b.result.0) ≡ (claim_in a.sheet.now a.n a.at).constant = to_z-of_z fits ∙ b.ensures ∙ ap (λ (m : ℕ). twos16 (byte a.sheet.now (a.at + 2 + a.n)) (byte a.sheet.now m)) next in
-    subst (λ (r : Bool). Tells r ((claim_in a.sheet.now a.n a.at).constant ≡ a.form.constant *ℤ pos f.result)) e
-    (subst (λ (z : ℤ). Tells c.is_times.result (z ≡ a.form.constant *ℤ pos f.result)) x
-    (subst (λ (y : ℤ). Tells c.is_times.result (to_z w16 (of_z w16 b.result.0) ≡ y *ℤ pos f.result)) (to_z-of_z theirs) given)) in
     let a = c.args in
-    let v = c.requires.2 in
-    let f = c.factor-d in
-    let d : f.result ≡ factor_of (nat_abs (entry (claim_in a.sheet.now a.n a.at) a.pivot.place)) a.pivot.size = f.ensures.0 ∙ ap (λ (x : ℕ). factor_of x a.pivot.size) c.size_in.ensures.0 in
-    other_constant (claim_in a.sheet.now a.n a.at) (space_of a.n a.form.coefficients a.form.constant) a.pivot.place a.pivot.size f.result v d (told false (not-true c.is_times.result c.if-not-is_times.true-raw))
+    let w : HalfSpace = a.claim.now in
+    let d = factor_is (goal.at.returns-then-not-is_times c).After-factor-d in
+    let told = constant_told (goal.at.returns-then-not-is_times c).After-is_times in (
+      λ e. absurd (false≢true e),
+      λ m.
+          absurd (other_constant w (space_of (length w.coefficients) a.form.now.coefficients a.form.now.constant) a.pivot.place a.pivot.size c.factor-d.result c.requires d (λ e. false≢true (sym c.if-not-is_times.true ∙ told.1 e)) m),
+    )
 
 pub returns : goal.returns
 returns c =
-    let told : (t : Bool) → c.is_times.result ≡ t → Tells t ((claim_in c.args.sheet.now c.args.n c.args.at).constant ≡ c.args.form.constant *ℤ pos c.factor-d.result) = λ t e. let a = c.args in
-    let f = c.factor-d in
-    let b = c.of_bytes-c in
-    let given : Tells c.is_times.result (to_z w16 (of_z w16 b.result.0) ≡ to_z w16 (of_z w16 a.form.constant) *ℤ pos f.result) = c.is_times.ensures in
-    let fits : SFits w16 b.result.0 = search rules in
-    let theirs : SFits w16 a.form.constant = search rules in
-    let next : a.at + 3 + a.n ≡ a.at + 2 + a.n + 1 = omega arith in
-    let x : to_z w16 (of_z w16 b.result.0) ≡ (claim_in a.sheet.now a.n a.at).constant = to_z-of_z fits ∙ b.ensures ∙ ap (λ (m : ℕ). twos16 (byte a.sheet.now (a.at + 2 + a.n)) (byte a.sheet.now m)) next in
-    subst (λ (r : Bool). Tells r ((claim_in a.sheet.now a.n a.at).constant ≡ a.form.constant *ℤ pos f.result)) e
-    (subst (λ (z : ℤ). Tells c.is_times.result (z ≡ a.form.constant *ℤ pos f.result)) x
-    (subst (λ (y : ℤ). Tells c.is_times.result (to_z w16 (of_z w16 b.result.0) ≡ y *ℤ pos f.result)) (to_z-of_z theirs) given)) in
     let a = c.args in
-    let v = c.requires.2 in
-    let f = c.factor-d in
-    let d : f.result ≡ factor_of (nat_abs (entry (claim_in a.sheet.now a.n a.at) a.pivot.place)) a.pivot.size = f.ensures.0 ∙ ap (λ (x : ℕ). factor_of x a.pivot.size) c.size_in.ensures.0 in
-    by_row (claim_in a.sheet.now a.n a.at) (space_of a.n a.form.coefficients a.form.constant) a.pivot.place a.pivot.size f.result v d c.row_is_times.result (omega arith) (told true (not-false c.is_times.result c.if-not-is_times.false-raw)) c.row_is_times.ensures
+    let w : HalfSpace = a.claim.now in
+    let r : HalfSpace = space_of (length w.coefficients) a.form.now.coefficients a.form.now.constant in
+    let d = factor_is (goal.at.returns c).After-factor-d in
+    let constant = (constant_told (goal.at.returns c).After-is_times).0 c.if-not-is_times.false in
+    let row : IsTrue c.row_is_times.result ↔ (w.coefficients ≡ times c.factor-d.result r.coefficients) = rw c.coefficients-coefficients.ensures.value at c.row_is_times.ensures in
+    by_row w r a.pivot.place a.pivot.size c.factor-d.result c.requires d c.row_is_times.result (omega arith) constant row

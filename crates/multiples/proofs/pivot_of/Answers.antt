@@ -1,47 +1,28 @@
--- `pivot_of` meets its contract: the coefficients that were passed are zero, so the first that is not is a pivot, or else the constant.
-use mathlib.Core.Path.{◌≡◌, sym, ap, ◌∙◌, subst}
-use mathlib.Core.List.{[], ◌∷◌}
-use Prim.Native.Nat.{ℕ}
+-- `pivot_of` meets its contract: the first coefficient that isn't zero is a pivot, or where there is none the constant.
+use Prim.Native.Nat.{◌<◌}
 use native.Mathlib.Omega.{arith}
-use lib.IntN.{pos, nat_abs}
-use lib.ListN.{get_or, take}
-use mir.Syntax.{w8, w16}
-use mir.Val.{SFits, to_z, of_z}
-use mir.Facts.{to_z-of_z}
-use borrow.Author.Rules.{sfits_of}
-use Rattle.nets.specs.Reduced.{EachOf}
-use Rattle.reduction.proofs.Common.{each_append}
+use lib.IntN.{ℤ, pos}
+use lib.ListN.{length}
+use Rattle.std.proofs.Common.{rules, tests}
+use Rattle.std.proofs.lemmas.Int.{ints}
+use Rattle.std.proofs.lemmas.Iterator.{IsFirst-from_position, YieldsList-from_slice}
+use Rattle.std.specs.Option.{MatchOption}
+use Rattle.std.specs.List.{HoldsAt, AllWithin}
 use Rattle.multiples.proofs.Scaled.{IsZero}
-use Rattle.reduction.proofs.Rows.{row_more}
-use Rattle.multiples.proofs.Entries.{pivot_row, pivot_constant}
+use Rattle.multiples.proofs.Entries.{pivot_row, pivot_constant, zeros_within}
 use Rattle.multiples.proofs.pivot_of.Goals as goal
+use Rattle.multiples.proofs.pivot_of.Goals.{After-position}
 
-pub loop-place-init : goal.loop-place-init
-unfolding EachOf
-loop-place-init c = (omega arith, tt)
+first_of : (c : After-position) → MatchOption c.position.result (AllWithin IsZero c.args.k.now 0 (length c.args.k.now)) (λ i. (i < length c.args.k.now) × HoldsAt (λ z. IsZero z → ⊥) c.args.k.now i × AllWithin IsZero c.args.k.now 0 i)
+first_of c =
+    IsFirst-from_position c.position.new.self _ c.position.result (λ (z : ℤ). IsZero z → ⊥) IsZero c.position.ensures.ran (YieldsList-from_slice c.args.k.now cc) (λ x q k. search (rules, tests, ints)) (λ x q k. search (rules, tests, ints))
 
-pub returns-then-z-ne0 : goal.returns-then-z-ne0
-returns-then-z-ne0 c =
-    let l = c.loop-place in
-    let a = c.args in
-    let z = get_or a.k l.place (pos 0) in
-    let fits : SFits w8 z = sfits_of {w = w8} c.z-1.given in
-    let size : c.size.result ≡ nat_abs z = c.size.ensures ∙ ap nat_abs (to_z-of_z {w = w16} (sfits_of c.wide.type_inv) ∙ c.wide.ensures ∙ to_z-of_z fits) in
-    pivot_row a.n a.k a.c (omega arith) c.size.result l.place (omega arith) size (λ e. c.if-z-ne0.true (ap (of_z w8) e))
+pub returns-in-Some : goal.returns-in-Some
+returns-in-Some c =
+    let w = rw c.in-Some.is at (first_of (goal.at.returns-in-Some c).After-position) in
+    pivot_row c.args.k.now c.args.c c.from.result c.in-Some.place w.0 (omega (arith, ints)) (w.1 (pos 0))
 
-pub loop-place-preserved : goal.loop-place-preserved
-unfolding EachOf
-loop-place-preserved c =
-    let l = c.loop-place in
-    let k = c.args.k in
-    let z = get_or k l.place (pos 0) in
-    let fits : SFits w8 z = sfits_of {w = w8} c.z-1.given in
-    let none : z ≡ pos 0 = sym (to_z-of_z fits) ∙ ap (to_z w8) c.if-z-ne0.false in
-    (omega arith, subst (EachOf IsZero) (sym (row_more k l.place (omega arith))) (each_append IsZero (take l.place k) (z ∷ []) l.invariant.1 (none, tt)))
-
-pub returns : goal.returns
-returns c =
-    let a = c.args in
-    let l = c.loop-place in
-    let all : l.place ≡ a.n = omega arith in
-    pivot_constant a.n a.k a.c (omega arith) c.size-2.result (c.size-2.ensures ∙ ap nat_abs (to_z-of_z c.ranges.c)) (subst (λ (n : ℕ). EachOf IsZero (take n a.k)) all l.invariant.1)
+pub returns-in-None : goal.returns-in-None
+returns-in-None c =
+    let zeros = rw c.in-None.is at (first_of (goal.at.returns-in-None c).After-position) in
+    pivot_constant c.args.k.now c.args.c c.unsigned_abs-in-None.result (omega (arith, ints)) (zeros_within c.args.k.now (λ p l. zeros p (pos 0) (omega arith) l))
