@@ -138,6 +138,7 @@ impl<'a> Arcs<'a> {
 
     pub fn taken(&self) -> &'a [u8]
         ensures value { result.now ≡ self.now.taken }
+        ensures places { length self.now.put ≡ length result.now }
         ensures most { length result.now ≤ 16 }
         ensures fit { All IsWeight result.now }
     {
