@@ -1,10 +1,10 @@
 -- An area whose first n entries were lent on: it is as long as it was, and what is wiped then is wiped of the area as it was.
 -- A part comes back as long as it was lent, which is how each law has it.
 use mathlib.Core.Path.{◌≡◌, ap, ◌∙◌}
-use mathlib.Core.List.{List, ◌++◌}
+use mathlib.Core.List.{List, ◌++◌, append-nil}
 use Prim.Native.Nat.{ℕ, ◌≤◌}
 use native.Mathlib.Omega.{arith}
-use lib.ListN.{length, take, drop, replicate, length-append, length-drop}
+use lib.ListN.{length, take, drop, replicate, length-append, length-drop, drop_of_length-le}
 use lib.Seq.{drop_at, length-take-le}
 use Rattle.lent.specs.Wiped.{Wiped}
 
@@ -17,3 +17,7 @@ lent_length n y old e l = omega (arith, part_long n y old e l, length-append y (
 
 pub lent_wiped : (n : ℕ) (y old new : List ℕ) → length y ≡ length (take n old) → n ≤ length old → Wiped n (y ++ drop n old) new → Wiped n old new
 lent_wiped n y old new e l w = w ∙ ap (λ (m : List ℕ). replicate n 0 ++ m) (drop_at y (drop n old) n (part_long n y old e l))
+
+-- an area that is as long as what is wiped is zeros alone
+pub wiped_whole : (n : ℕ) (old new : List ℕ) → length old ≡ n → Wiped n old new → new ≡ replicate n 0
+wiped_whole n old new l w = w ∙ ap (λ (r : List ℕ). replicate n 0 ++ r) (drop_of_length-le old {i = n} (omega arith)) ∙ append-nil (replicate n 0)
