@@ -1,36 +1,59 @@
 -- The verdict once each question is answered.
-use mathlib.Core.Path.{refl, ap}
-use mathlib.Core.Bool.{Bool, true, false}
-use mathlib.Core.List.{List}
-use Prim.Native.Nat.{ℕ, suc}
-use Rattle.nets.specs.Nets.{transition}
-use Rattle.nets.specs.HalfSpaces.{HalfSpace, Inside, Outside, Kept, Broken}
-use Rattle.nets.specs.Verdicts.{Setting, TargetInside, Separates, start_outside, target_inside, broken, proof, IsVerdict}
+use Rattle.std.proofs.Common.{◌≡◌, refl, sym, ap, ◌∙◌, subst, ◌↔◌, List, ℕ, length, take, Bool, true, false, IsTrue, Option, Some, None, IsSome}
+use Rattle.std.proofs.lemmas.Bool.{false≢true}
+use Rattle.terms.specs.declared.Transition.{Transition}
+use Rattle.nets.specs.Nets as net
+use Rattle.nets.specs.Nets.{IsTransition, transition}
+use Rattle.nets.specs.HalfSpaces.{HalfSpace, Inside, Outside, Kept, Broken, sixteen}
+use Rattle.nets.specs.Verdicts as nets
+use Rattle.nets.specs.Verdicts.{Setting, TargetInside, Separates, IsVerdict}
 use Rattle.crossing.specs.Crosses.{Crosses}
-use Rattle.judged.specs.declared.Answer.TheVariants as answers
+use Rattle.inside.proofs.Targets.{inside_shown}
 use Rattle.lowest.specs.Lowest.{FirstBroken}
-use Rattle.judged.specs.Judges.{plain_judged, Judges}
+use Rattle.judged.specs.declared.Verdict.TheVariants.{StartOutside, TargetInside as Reached, Broken as IsBroken, Proof}
+use Rattle.judged.specs.Judges.{Judges}
+use Rattle.reader.specs.declared.Target.{Target}
+use Rattle.reader.specs.Targets.{target_shown}
 
-module _ (q : Setting) (h : HalfSpace) where
-  pub outside_so : (Inside h q.start → ⊥) → Judges q h (plain_judged answers.StartOutside)
+not_so : {Q : Type 0} (t : Bool) → t ≡ false → (IsTrue t ↔ Q) → Q → ⊥
+not_so t f told x = false≢true (sym f ∙ told.1 x)
+
+-- the start as it is shown was asked
+module _ (q : Setting) (h : HalfSpace) (n : ℕ) (tokens : List ℕ) (some : n ≡ length h.coefficients) (start : tokens ≡ sixteen 0 q.start) (in_start : Bool) (told_start : IsTrue in_start ↔ Inside h (take n tokens)) where
+  shown : Inside h (take n tokens) ↔ Inside h q.start
+  shown = inside_shown h n q.start tokens some start
+
+  pub outside_so : in_start ≡ false → Judges q h StartOutside
   unfolding IsVerdict Outside
-  outside_so o = (start_outside, o, refl)
+  outside_so f = (nets.start_outside, (λ i. not_so in_start f told_start (shown.1 i)), refl)
 
-  module _ (i : Inside h q.start) where
-    pub target_so : TargetInside q h → Judges q h (plain_judged answers.TargetInside)
+  -- and then the target as it is shown
+  module _ (s : in_start ≡ true) (g : Target) (target : g ≡ target_shown q.target) (places : length q.target.tokens ≡ length h.coefficients) (in_target : Bool) (told_target : (p : Setting) → g ≡ target_shown p.target → length p.target.tokens ≡ length h.coefficients → IsTrue in_target ↔ TargetInside p h) where
+    started : Inside h q.start
+    started = shown.0 (told_start.0 s)
+
+    pub target_so : in_target ≡ true → Judges q h Reached
     unfolding IsVerdict
-    target_so t = (target_inside, (i, t), refl)
+    target_so t = (nets.target_inside, (started, (told_target q target places).0 t), refl)
 
-    module _ (o : TargetInside q h → ⊥) where
+    -- and then the transitions
+    module _ (f : in_target ≡ false) (t : Option Transition) (told : FirstBroken q.net h t) where
       apart : Separates q h
-      apart = record { start_inside = i; target_outside = o }
+      apart = record { start_inside = started; target_outside = not_so in_target f (told_target q target places) }
 
-      pub proof_so : FirstBroken q.net h 0 → Judges q h (plain_judged answers.Proof)
+      pub proof_so : t ≡ None → Judges q h Proof
       unfolding IsVerdict
-      proof_so f = (proof, (apart, f), refl)
+      proof_so e = (nets.proof, (apart, subst (FirstBroken q.net h) e told), refl)
 
-      -- a broken pair's search shows a marking
-      pub broken_so : (t : ℕ) (hit : Bool) (m : List ℕ) → FirstBroken q.net h (suc t) → Crosses h (transition q.net (suc t)) hit m → Judges q h (record { answer = answers.Broken (record { 0 = suc t }); marking = m })
-      unfolding IsVerdict Kept Broken
-      broken_so t true m f (b, s, e) = (broken (suc t) b, (apart, record { there = f.0; shown = s; lowest = f.2 }), ap (λ (n : List ℕ). record { answer = answers.Broken (record { 0 = suc t }); marking = n }) e)
-      broken_so t false m f (k, e) = absurd (k f.1.0 f.1.1)
+      pub broken_so : (u : Transition) (m : List ℕ) (c : Option (List ℕ)) (w : net.Transition) → t ≡ Some u → c ≡ Some m → w ≡ transition q.net u.0 → Crosses h w c → Judges q h (IsBroken u m)
+      unfolding IsVerdict
+      broken_so u m c w e k same crossed =
+          let first : FirstBroken q.net h (Some u) = subst (FirstBroken q.net h) e told in
+          let bad : Crosses h (transition q.net u.0) (Some m) = subst (λ w. Crosses h w (Some m)) same (subst (Crosses h w) k crossed) in
+          (nets.broken u.0 bad.0, (apart, record { there = first.0; shown = bad.1; lowest = first.2 }), ap (IsBroken u) bad.2)
+
+-- where a transition breaks it the search finds a marking
+pub found : (h : HalfSpace) (N : net.Net) (t : Option Transition) (u : Transition) (c : Option (List ℕ)) (w : net.Transition) → FirstBroken N h t → t ≡ Some u → w ≡ transition N u.0 → Crosses h w c → IsSome c
+unfolding Kept Broken
+found h N t u (Some m) w f e same k = refl
+found h N t u None w f e same k = let first : FirstBroken N h (Some u) = subst (FirstBroken N h) e f in absurd (subst (Kept h) same k first.1.0 first.1.1)
