@@ -186,11 +186,15 @@ impl From<Result<Weights, Refusal>> for Weighted {
 
     fn from(answer: Result<Weights, Refusal>) -> Weighted {
         match answer {
-            Ok(weights) => Weighted {
-                refusal: Refused::NOTHING,
-                taken: weights.taken,
-                put: weights.put,
-            },
+            Ok(weights) => {
+                let taken = weights.taken;
+                let put = weights.put;
+                Weighted {
+                    refusal: Refused::NOTHING,
+                    taken,
+                    put,
+                }
+            }
             Err(refusal) => Weighted {
                 refusal: Refused::from(refusal),
                 taken: [0; Place::MOST],
@@ -227,7 +231,19 @@ impl From<Result<Marking, Refusal>> for Tokens {
     ghost from_gives = { λ answer told. told ≡ marking_is answer };
 
     fn from(answer: Result<Marking, Refusal>) -> Tokens {
-        Tokens::from(answer.map(|marking| marking.tokens))
+        match answer {
+            Ok(marking) => {
+                let tokens = marking.tokens;
+                Tokens {
+                    refusal: Refused::NOTHING,
+                    tokens,
+                }
+            }
+            Err(refusal) => Tokens {
+                refusal: Refused::from(refusal),
+                tokens: [0; Place::MOST],
+            },
+        }
     }
 }
 
@@ -239,11 +255,14 @@ impl From<Result<Goal, Refusal>> for Target {
 
     fn from(answer: Result<Goal, Refusal>) -> Target {
         match answer {
-            Ok(target) => Target {
-                refusal: Refused::NOTHING,
-                kind: target.kind as u8,
-                tokens: target.tokens,
-            },
+            Ok(target) => {
+                let tokens = target.tokens;
+                Target {
+                    refusal: Refused::NOTHING,
+                    kind: target.kind as u8,
+                    tokens,
+                }
+            }
             Err(refusal) => Target {
                 refusal: Refused::from(refusal),
                 kind: Kind::Exact as u8,
@@ -283,11 +302,14 @@ impl From<Result<Form, Refusal>> for Space {
 
     fn from(answer: Result<Form, Refusal>) -> Space {
         match answer {
-            Ok(form) => Space {
-                refusal: Refused::NOTHING,
-                coefficients: form.coefficients,
-                constant: form.constant,
-            },
+            Ok(form) => {
+                let coefficients = form.coefficients;
+                Space {
+                    refusal: Refused::NOTHING,
+                    coefficients,
+                    constant: form.constant,
+                }
+            }
             Err(refusal) => Space {
                 refusal: Refused::from(refusal),
                 coefficients: [0; Place::MOST],
