@@ -1,5 +1,6 @@
 -- The listing of a sheet: document 01, "The listing". Which bad marking a line shows is free, so it is told of a text whether it is one.
-use Rattle.std.specs.Prelude.{◌≡◌, List, [], ◌++◌, ℕ, zero, suc, length}
+use Rattle.std.specs.Prelude.{◌≡◌, List, [], ◌++◌, ℕ, zero, suc, length, Option}
+use Rattle.terms.specs.declared.Claim.{Claim}
 use Rattle.nets.specs.Verdicts.{Verdict, IsVerdict}
 use Rattle.format.specs.Contents.{Contents, half_space, claim}
 use Rattle.twins.specs.Answers.{IsTwinNumber}
@@ -10,7 +11,7 @@ use Rattle.lines.specs.Lines.{claim_line}
 pub record IsLine (x : Contents) (i : ℕ) (line : List ℕ) : Type 0 where
   pub verdict : Verdict
   pub is_verdict : IsVerdict x.setting (half_space (claim x i)) verdict
-  pub twin : ℕ
+  pub twin : Option Claim
   pub is_twin : IsTwinNumber x i twin
   pub is : line ≡ claim_line i verdict twin
 

@@ -1,66 +1,54 @@
 // The verdict on a claim: start-outside, target-inside, broken, proof. Demand 3 and document 01, "Half spaces and verdicts".
 #![tactic(auto)]
 
-ghost use Rattle.std.specs.Prelude.{◌≡◌, ◌≤◌, length, Ok};
-ghost use Rattle.lent.specs.Wiped.{Wiped};
-ghost use Rattle.format.specs.Contents.{Contents, half_space, claim};
+ghost use Rattle.std.specs.Prelude.{◌≡◌, length, replicate};
 ghost use Rattle.format.specs.Reading.{reading};
-ghost use Rattle.pairs.specs.Pairs.{area_after};
-ghost use Rattle.known.specs.Known.{Known};
 ghost use Rattle.judged.specs.Judges.{Judges};
-ghost use Rattle.verdicts.specs.Judged.{IsJudged, counted_check, verdict_check};
+ghost use Rattle.pairs.specs.Pairs.{area_after};
+ghost use Rattle.verdicts.specs.Judged.{IsJudged, verdict_check};
 
-use judged::{Answer, Judged};
-use judging::judge_claim;
+use judged::Verdict;
+use judging::judge;
 use lent::wipe;
-use reader::{Counts, Reading, read};
-use refusals::{Check, Refusal};
-use terms::{Area, Claim, among};
+use reader::Sheet;
+use refusals::Refusal;
+use terms::{Area, Claim};
+use values::HalfSpace;
 
-// The refusals in their order, by the counts of the sheet.
-fn checked(counts: Counts, i: Claim, marks: usize, queue: usize) -> Check
-    ensures { result ≡ counted_check counts i marks queue }
+// The verdict on a half space in two areas that are wiped after it.
+fn settle(
+    half_space: &HalfSpace,
+    sheet: &Sheet<'_>,
+    marks: &mut [u8; Area::SIZE],
+    queue: &mut [u16; Area::SIZE],
+) -> Verdict
+    requires { length half_space.now.coefficients ≡ sheet.now.setting.net.places }
+    ensures judges { Judges sheet.now.setting half_space.now result }
+    ensures marks_wiped { marks.new ≡ replicate 20000 0 }
+    ensures queue_wiped { queue.new ≡ replicate 20000 0 }
 {
-    if !among(i.0, counts.claims) {
-        return Check::Refused(Refusal::no_claim(i));
-    }
-    if !Area::fit(marks, queue) {
-        return Check::Refused(Refusal::small_area());
-    }
-    Check::Fine
-}
-
-// Claim i of a sound sheet, in areas that may be longer than a search needs, and that are wiped afterwards.
-fn settled(sheet: &[u8], counts: Counts, i: usize, marks: &mut [u8], queue: &mut [u16]) -> Judged
-    requires known { Known sheet.now counts × (1 ≤ i) × (i ≤ counts.claims) }
-    requires in_bounds { (20000 ≤ length marks.old) × (20000 ≤ length queue.old) }
-    ensures judges { (x : Contents) → reading sheet.now ≡ Ok x → Judges x.setting (half_space (claim x i)) result }
-    ensures wiped { Wiped 20000 marks.old marks.new × Wiped 20000 queue.old queue.new }
-{
-    let r = judge_claim(
-        sheet,
-        counts,
-        i,
-        &mut marks[..Area::SIZE],
-        &mut queue[..Area::SIZE],
-    );
+    let verdict = judge(half_space, sheet, marks, queue);
     wipe(marks, queue);
-    r
+    verdict
 }
 
-// The verdict on claim i.
-pub fn verdict_of(sheet: &[u8], i: Claim, marks: &mut [u8], queue: &mut [u16]) -> Judged
-    ensures judged { IsJudged (reading sheet.now) i (length marks.old) (length queue.old) result }
-    ensures marks_after { marks.new ≡ area_after (verdict_check (reading sheet.now) i (length marks.old) (length queue.old)) marks.old }
-    ensures queue_after { queue.new ≡ area_after (verdict_check (reading sheet.now) i (length marks.old) (length queue.old)) queue.old }
+// The verdict on a claim.
+pub fn verdict_of(
+    bytes: &[u8],
+    claim: Claim,
+    marks: &mut [u8],
+    queue: &mut [u16],
+) -> Result<Verdict, Refusal>
+    ensures judged { IsJudged (reading bytes.now) claim (length marks.old) (length queue.old) result }
+    ensures marks_after { marks.new ≡ area_after (verdict_check (reading bytes.now) claim (length marks.old) (length queue.old)) marks.old }
+    ensures queue_after { queue.new ≡ area_after (verdict_check (reading bytes.now) claim (length marks.old) (length queue.old)) queue.old }
 {
-    let answer = read(sheet);
-    let Reading::Sound(counts) = answer else {
-        return Judged::plain(Answer::Refused(answer.refusal()));
-    };
-    let check = checked(counts, i, marks.len(), queue.len());
-    if let Check::Refused(r) = check {
-        return Judged::plain(Answer::Refused(r));
+    let sheet = Sheet::read(bytes)?;
+    let half_space = sheet.half_space(claim)?;
+    if !Area::fit(marks.len(), queue.len()) {
+        return Err(Refusal::SmallArea);
     }
-    settled(sheet, counts, i.0, marks, queue)
+    let marks = marks.first_chunk_mut().unwrap();
+    let queue = queue.first_chunk_mut().unwrap();
+    Ok(settle(&half_space, &sheet, marks, queue))
 }
