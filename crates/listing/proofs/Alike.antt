@@ -8,16 +8,15 @@ use native.Mathlib.Omega.{arith}
 use lib.Dec.{leb}
 use lib.ListN.{length}
 use Rattle.terms.specs.Limits.{text_size}
-use Rattle.refusals.specs.declared.Refusal.{Refusal}
 use Rattle.nets.specs.Verdicts.{Verdict, start_outside, target_inside, broken, proof, IsVerdict, SameBut}
 use Rattle.nets.proofs.OneVerdict.{one_verdict}
 use Rattle.format.specs.Read.{Read}
 use Rattle.format.specs.Contents.{Contents, half_space, claim}
 use Rattle.refusals.specs.Refusals.{Check}
 use Rattle.twins.proofs.OneAnswer.{one_number}
+use Rattle.firstline.specs.FirstLine.{refused_line}
 use Rattle.lines.specs.Lines.{claim_line}
 use Rattle.entries.specs.Entries.{IsLine, AreLines, IsListing, counts_of_sheet}
-use Rattle.listing.specs.declared.Listed.{Listed}
 use Rattle.listing.specs.Listed.{IsListed, Lists, IsRefusalText, RefusalWritten, room_check}
 use Rattle.listing.specs.Alike.{LineAlike, LinesAlike, Alike, Unbroken, AnswersAlike, both_refused, both_listed}
 
@@ -84,18 +83,18 @@ module _ (x : Contents) where
       a.is ∙ ap (λ (ls : List ℕ). counts_of_sheet x ++ ls) (lines_equal (length x.claims) none a.lines b.lines a.are b.are) ∙ sym b.is
 
 -- two answers to one call
-lists_alike : (k : Check) (x : Contents) (old new new_too : List ℕ) (r s : Listed) → Lists k x old new r → Lists k x old new_too s → AnswersAlike (Ok x) old new new_too r s
+lists_alike : (k : Check) (x : Contents) (old new new_too : List ℕ) (r s : Read ℕ) → Lists k x old new r → Lists k x old new_too s → AnswersAlike (Ok x) old new new_too r s
 lists_alike (Ok u) x old new new_too r s a b = both_listed x refl a.0 b.0 (alike x a.0 b.0 a.1 b.1) a.2 b.2 a.3 b.3
 lists_alike (Err q) x old new new_too r s a b = both_refused q a.0 b.0 a.1 b.1
 
-pub answers_alike : (y : Read Contents) (marks queue : ℕ) (old new new_too : List ℕ) (r s : Listed) → IsListed y marks queue old new r → IsListed y marks queue old new_too s → AnswersAlike y old new new_too r s
+pub answers_alike : (y : Read Contents) (marks queue : ℕ) (old new new_too : List ℕ) (r s : Read ℕ) → IsListed y marks queue old new r → IsListed y marks queue old new_too s → AnswersAlike y old new new_too r s
 answers_alike (Err q) marks queue old new new_too r s a b = both_refused q a.0 b.0 a.1 b.1
 answers_alike (Ok x) marks queue old new new_too r s a b = lists_alike (room_check marks queue (length old)) x old new new_too r s a b
 
 -- a refusal's line leaves nothing to choose
-written_once : (t : Bool) (q : Refusal) (old new new_too : List ℕ) (r s : Listed) → RefusalWritten t q old new r → RefusalWritten t q old new_too s → (r ≡ s) × (new ≡ new_too)
-written_once true q old new new_too r s a b = (a.0 ∙ sym b.0, a.1 ∙ sym b.1)
-written_once false q old new new_too r s a b = (a.0 ∙ sym b.0, a.1 ∙ sym b.1)
+written_once : (t : Bool) (line old new new_too : List ℕ) (r s : Read ℕ) → RefusalWritten t line old new r → RefusalWritten t line old new_too s → (r ≡ s) × (new ≡ new_too)
+written_once true line old new new_too r s a b = (a.0 ∙ sym b.0, a.1 ∙ sym b.1)
+written_once false line old new new_too r s a b = (a.0 ∙ sym b.0, a.1 ∙ sym b.1)
 
-pub one_refusal_text : (q : Refusal) (old new new_too : List ℕ) (r s : Listed) → IsRefusalText q old new r → IsRefusalText q old new_too s → (r ≡ s) × (new ≡ new_too)
-one_refusal_text q old new new_too r s a b = written_once (leb text_size (length old)) q old new new_too r s a b
+pub one_refusal_text : (number detail : ℕ) (old new new_too : List ℕ) (r s : Read ℕ) → IsRefusalText number detail old new r → IsRefusalText number detail old new_too s → (r ≡ s) × (new ≡ new_too)
+one_refusal_text number detail old new new_too r s a b = written_once (leb text_size (length old)) (refused_line number detail) old new new_too r s a b

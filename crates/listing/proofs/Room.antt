@@ -9,7 +9,7 @@ use Rattle.refusals.specs.declared.Refusal.TheVariants.{SmallArea, SmallText}
 use Rattle.pairs.proofs.Order.{held_so, both_fit}
 use Rattle.listing.specs.Listed.{room_check}
 
-pub room_passed : (marks queue room : ℕ) → room_check marks queue room ≡ (Ok tt) → (20000 ≤ marks) × (20000 ≤ queue) × (4096 ≤ room)
+pub room_passed : (marks queue room : ℕ) → room_check marks queue room ≡ Ok tt → (20000 ≤ marks) × (20000 ≤ queue) × (4096 ≤ room)
 room_passed marks queue room e =
     let a = held_so (areas_fit marks queue) _ SmallArea e in
     let b = held_so (leb text_size room) (Ok tt) SmallText a.1 in

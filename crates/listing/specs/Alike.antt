@@ -1,13 +1,12 @@
 -- When two listings of a sheet are alike: they differ in the choice among bad markings alone.
-use Rattle.std.specs.Prelude.{◌≡◌, List, [], ◌++◌, ℕ, zero, suc, length, drop, Ok}
+use Rattle.std.specs.Prelude.{◌≡◌, List, [], ◌++◌, ℕ, zero, suc, length, drop, Option, Err, Ok}
+use Rattle.terms.specs.declared.Claim.{Claim}
 use Rattle.refusals.specs.declared.Refusal.{Refusal}
 use Rattle.nets.specs.Nets.{Marking}
 use Rattle.nets.specs.Verdicts.{Verdict, broken, IsVerdict, SameBut}
 use Rattle.format.specs.Read.{Read}
 use Rattle.format.specs.Contents.{Contents, half_space, claim}
 use Rattle.lines.specs.Lines.{claim_line}
-use Rattle.listing.specs.declared.Listed.{Listed}
-use Rattle.listing.specs.declared.Listed.TheVariants as listed
 use Rattle.entries.specs.Entries.{counts_of_sheet}
 
 -- two lines of claim i: one verdict, but for the bad marking, and one twin
@@ -15,7 +14,7 @@ pub record LineAlike (i : ℕ) (line other : List ℕ) : Type 0 where
   pub verdict : Verdict
   pub another : Verdict
   pub same : SameBut verdict another
-  pub twin : ℕ
+  pub twin : Option Claim
   pub is : line ≡ claim_line i verdict twin
   pub other_is : other ≡ claim_line i another twin
 
@@ -37,6 +36,6 @@ unfoldable pub Unbroken : Contents → ℕ → Type 0
 Unbroken x i = (t : ℕ) (m : Marking) → IsVerdict x.setting (half_space (claim x i)) (broken t m) → ⊥
 
 -- two answers with the areas that they leave: one refusal, or listings that are alike
-pub data AnswersAlike (y : Read Contents) (old new new_too : List ℕ) (r s : Listed) : Type 0 where
-  both_refused : (q : Refusal) → r ≡ listed.Refused q → s ≡ listed.Refused q → new ≡ old → new_too ≡ old → AnswersAlike y old new new_too r s
-  both_listed : (x : Contents) → y ≡ Ok x → (text other : List ℕ) → Alike x text other → r ≡ listed.Written (length text) → s ≡ listed.Written (length other) → new ≡ text ++ drop (length text) old → new_too ≡ other ++ drop (length other) old → AnswersAlike y old new new_too r s
+pub data AnswersAlike (y : Read Contents) (old new new_too : List ℕ) (r s : Read ℕ) : Type 0 where
+  both_refused : (q : Refusal) → r ≡ Err q → s ≡ Err q → new ≡ old → new_too ≡ old → AnswersAlike y old new new_too r s
+  both_listed : (x : Contents) → y ≡ Ok x → (text other : List ℕ) → Alike x text other → r ≡ Ok (length text) → s ≡ Ok (length other) → new ≡ text ++ drop (length text) old → new_too ≡ other ++ drop (length other) old → AnswersAlike y old new new_too r s

@@ -2,14 +2,11 @@
 use Rattle.std.specs.Prelude.{◌≡◌, Bool, true, false, List, ◌++◌, ℕ, length, drop, leb, Err, Ok}
 use Rattle.terms.specs.Limits.{areas_fit, text_size}
 use Rattle.refusals.specs.declared.Refusal.TheVariants.{SmallArea, SmallText}
-use Rattle.refusals.specs.declared.Refusal.{Refusal}
 use Rattle.format.specs.Read.{Read, choose}
 use Rattle.format.specs.Contents.{Contents}
 use Rattle.refusals.specs.Refusals.{Check}
-use Rattle.firstline.specs.FirstLine.{refusal_line}
+use Rattle.firstline.specs.FirstLine.{refused_line}
 use Rattle.entries.specs.Entries.{IsListing}
-use Rattle.listing.specs.declared.Listed.{Listed}
-use Rattle.listing.specs.declared.Listed.TheVariants as listed
 
 -- the refusals in their order: the sheet's, 13 for a work area, 19 for the text's
 abbrev pub room_check : ℕ → ℕ → ℕ → Check
@@ -20,18 +17,19 @@ listing_check (Err r) marks queue room = Err r
 listing_check (Ok x) marks queue room = room_check marks queue room
 
 -- the area afterwards: the listing, and behind it what stood there; after a refusal as it was
-abbrev pub Lists : Check → Contents → List ℕ → List ℕ → Listed → Type 0
-Lists (Ok u) x old new r = (text : List ℕ) × IsListing x text × (r ≡ listed.Written (length text)) × (new ≡ text ++ drop (length text) old)
-Lists (Err q) x old new r = (r ≡ listed.Refused q) × (new ≡ old)
+abbrev pub Lists : Check → Contents → List ℕ → List ℕ → Read ℕ → Type 0
+Lists (Ok u) x old new r = (text : List ℕ) × IsListing x text × (r ≡ Ok (length text)) × (new ≡ text ++ drop (length text) old)
+Lists (Err q) x old new r = (r ≡ Err q) × (new ≡ old)
 
-abbrev pub IsListed : Read Contents → ℕ → ℕ → List ℕ → List ℕ → Listed → Type 0
-IsListed (Err q) marks queue old new r = (r ≡ listed.Refused q) × (new ≡ old)
+abbrev pub IsListed : Read Contents → ℕ → ℕ → List ℕ → List ℕ → Read ℕ → Type 0
+IsListed (Err q) marks queue old new r = (r ≡ Err q) × (new ≡ old)
 IsListed (Ok x) marks queue old new r = Lists (room_check marks queue (length old)) x old new r
 
 -- a refusal's line: the area is long enough, or 19
-abbrev pub RefusalWritten : Bool → Refusal → List ℕ → List ℕ → Listed → Type 0
-RefusalWritten true q old new r = (r ≡ listed.Written (length (refusal_line q))) × (new ≡ refusal_line q ++ drop (length (refusal_line q)) old)
-RefusalWritten false q old new r = (r ≡ listed.Refused SmallText) × (new ≡ old)
+abbrev pub RefusalWritten : Bool → List ℕ → List ℕ → List ℕ → Read ℕ → Type 0
+RefusalWritten true line old new r = (r ≡ Ok (length line)) × (new ≡ line ++ drop (length line) old)
+RefusalWritten false line old new r = (r ≡ Err SmallText) × (new ≡ old)
 
-abbrev pub IsRefusalText : Refusal → List ℕ → List ℕ → Listed → Type 0
-IsRefusalText q old new r = RefusalWritten (leb text_size (length old)) q old new r
+-- any number and detail, those of a refusal or not
+abbrev pub IsRefusalText : ℕ → ℕ → List ℕ → List ℕ → Read ℕ → Type 0
+IsRefusalText number detail old new r = RefusalWritten (leb text_size (length old)) (refused_line number detail) old new r

@@ -15,8 +15,6 @@ use Rattle.text.specs.Bytes.{Wrote}
 use Rattle.text.proofs.Writing.{length_written, whole}
 use Rattle.firstline.specs.FirstLine.{refusal_line}
 use Rattle.entries.specs.Entries.{IsListing}
-use Rattle.listing.specs.declared.Listed.{Listed}
-use Rattle.listing.specs.declared.Listed.TheVariants as listed
 use Rattle.listing.specs.Listed.{IsListed, Lists, room_check}
 use Rattle.listing.proofs.Alike.{alike}
 use Rattle.page.specs.Page.{IsPage, Starts, PagesAlike}
@@ -36,30 +34,30 @@ starts bs old new n e is =
       },
     )
 
-written_number : (r : Listed) (m n : ℕ) → r ≡ listed.Written n → r ≡ listed.Written m → n ≡ m
+written_number : (r : Read ℕ) (m n : ℕ) → r ≡ Ok n → r ≡ Ok m → n ≡ m
 written_number r m n e f = cc
 
-not_both : (r : Listed) (n : ℕ) (q : Refusal) → r ≡ listed.Written n → r ≡ listed.Refused q → ⊥
+not_both : (r : Read ℕ) (n : ℕ) (q : Refusal) → r ≡ Ok n → r ≡ Err q → ⊥
 not_both r n q e f = let z : ◌≡◌ {A = ℕ} 0 1 = cc in omega arith
 
-same_refusal : (r : Listed) (p q : Refusal) → r ≡ listed.Refused p → r ≡ listed.Refused q → p ≡ q
+same_refusal : (r : Read ℕ) (p q : Refusal) → r ≡ Err p → r ≡ Err q → p ≡ q
 same_refusal r p q e f = cc
 
 pub line_there : (r : Refusal) (old new : List ℕ) (n : ℕ) → Wrote (refusal_line r) old 0 new n → (take n new ≡ refusal_line r) × Starts n old new
 line_there r old new n w = starts (refusal_line r) old new n (length_written (refusal_line r) old new n w) (whole (refusal_line r) old new n w)
 
-module _ (m l : ℕ) (old new : List ℕ) (e : Listed) (enough : room_check m l (length old) ≡ (Ok tt)) where
+module _ (m l : ℕ) (old new : List ℕ) (e : Read ℕ) (enough : room_check m l (length old) ≡ (Ok tt)) where
   listed_so : (x : Contents) → IsListed (Ok x) m l old new e → Lists (Ok tt) x old new e
   listed_so x w = subst (λ (q : Check). Lists q x old new e) enough w
 
-  pub page_there : (y : Read Contents) → IsListed y m l old new e → (n : ℕ) → e ≡ listed.Written n → IsPage y (take n new) × Starts n old new
+  pub page_there : (y : Read Contents) → IsListed y m l old new e → (n : ℕ) → e ≡ Ok n → IsPage y (take n new) × Starts n old new
   page_there (Err q) w n is = absurd (not_both e n q is w.0)
   page_there (Ok x) w n is =
       let (bs, is-listing, written, whole) = listed_so x w in
       let s = starts bs old new n (written_number e (length bs) n is written) whole in
       (subst (λ (t : List ℕ). IsListing x t) (sym s.0) is-listing, s.1)
 
-  pub refused_there : (y : Read Contents) → IsListed y m l old new e → (q : Refusal) → e ≡ listed.Refused q → (y ≡ Err q) × (new ≡ old)
+  pub refused_there : (y : Read Contents) → IsListed y m l old new e → (q : Refusal) → e ≡ Err q → (y ≡ Err q) × (new ≡ old)
   refused_there (Err p) w q is = (ap Err (same_refusal e p q w.0 is), w.1)
   refused_there (Ok x) w q is = absurd (not_both e (length (listed_so x w).0) q (listed_so x w).2 is)
 

@@ -5,8 +5,7 @@
 mod sums; // sums.rt: the value of amounts under coefficients
 
 use std::marker::Model;
-pub use sums::Amount;
-use sums::value_of;
+pub use sums::{Amount, value_of};
 use terms::Place;
 
 // A half space over the places of a net.

@@ -1,33 +1,32 @@
--- `listing_of` meets its contract: the refusals come in their order, and what was written is the listing.
-use Rattle.std.specs.Prelude.{Ok}
-use mathlib.Core.Path.{◌≡◌, ◌∙◌, sym, ap, subst}
-use mathlib.Core.List.{List}
-use Prim.Native.Nat.{ℕ}
-use lib.ListN.{length}
-use Rattle.format.specs.Read.{Read}
-use Rattle.format.specs.Contents.{Contents}
-use Rattle.format.specs.Reading.{reading}
-use Rattle.refusals.specs.Refusals.{Check}
-use Rattle.known.proofs.Taken.{sound_answer}
-use Rattle.pairs.specs.Pairs.{area_after}
+-- `listing_of` meets its contract: where nothing is refused, every area is long enough, and the listing stands at the start of the text.
+use Rattle.std.proofs.Common.{rules, refl, sym, ap, length, Ok}
 use Rattle.text.proofs.Writing.{length_written, whole}
-use Rattle.listing.specs.declared.Listed.TheVariants as listed
-use Rattle.listing.specs.Listed.{IsListed, Lists, room_check, listing_check}
+use Rattle.listing.proofs.Room.{room_passed}
 use Rattle.listing.proofs.listing_of.Goals as goal
+use Rattle.listing.proofs.listing_of.Goals.{After-checked}
 
-pub returns : goal.returns
-returns c =
+pub unwrap-queue-requires : goal.unwrap-queue-requires
+unwrap-queue-requires c =
     let a = c.args in
-    let m = length a.marks.now in
-    let l = length a.queue.now in
-    let t = length a.text.now in
-    let x = sound_answer (reading a.sheet.now) (sym c.read-answer.ensures ∙ c.in-Sound.is) in
-    let ck : room_check m l t ≡ (Ok tt) = sym c.checked-check.ensures ∙ c.in_default-check.is in
-    let after : (old : List ℕ) → area_after (Ok u) old ≡ area_after (listing_check (reading a.sheet.now) m l t) old =
-    λ old. ap (λ (q : Check). area_after q old) (sym ck) ∙ ap (λ (y : Read Contents). area_after (listing_check y m l t) old) (sym x.1) in
-    let k = c.written-end in
-    let w = k.ensures.by_index x.0 x.1 in
-    let new = c.written-end.new.text in
-    let r = listed.Written k.result in
-    let told : Lists (Ok tt) x.0 a.text.now new r = (w.0, w.1, ap listed.Written (length_written w.0 a.text.now new k.result w.2), whole w.0 a.text.now new k.result w.2) in
-    record { listed = subst (λ (y : Read Contents). IsListed y m l a.text.now new r) (sym x.1) (subst (λ (q : Check). Lists q x.0 a.text.now new r) (sym ck) told); marks_after = k.ensures.wiped.0 ∙ after a.marks.now; queue_after = k.ensures.wiped.1 ∙ after a.queue.now }
+    let long = (room_passed (length a.marks.now) (length a.queue.now) (length a.text.now) (sym c.in_ok-checked.ensures)).1 in
+    search rules
+
+pub written-requires : goal.written-requires
+written-requires c =
+    let a = c.args in
+    (room_passed (length a.marks.now) (length a.queue.now) (length a.text.now) (sym c.in_ok-checked.ensures)).2
+
+pub returns-clause-listed : goal.returns-clause-listed
+returns-clause-listed c =
+    let a = c.args in
+    let w = c.written in
+    let l = w.ensures.lines in
+    rw (sym c.in_ok-sheet.ensures, sym c.in_ok-checked.ensures) (l.0, l.1, ap Ok (length_written l.0 a.text.now w.new.text w.result l.2), whole l.0 a.text.now w.new.text w.result l.2)
+
+pub returns-clause-marks_after : goal.returns-clause-marks_after
+returns-clause-marks_after c =
+    rw (sym c.in_ok-sheet.ensures, sym c.in_ok-checked.ensures, c.written.ensures.marks_wiped) refl
+
+pub returns-clause-queue_after : goal.returns-clause-queue_after
+returns-clause-queue_after c =
+    rw (sym c.in_ok-sheet.ensures, sym c.in_ok-checked.ensures, c.written.ensures.queue_wiped) refl
