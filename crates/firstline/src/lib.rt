@@ -21,7 +21,7 @@ pub fn put_counts(writer: &mut Writer, counts: Counts)
 }
 
 // In at most 36 bytes.
-pub fn put_refusal(writer: &mut Writer, number: u8, detail: usize)
+fn put_refusal(writer: &mut Writer, number: u8, detail: usize)
     requires { HasRoom 36 writer.old }
     ensures { Puts (refused_line number detail) writer.old writer.new }
 {

@@ -1,38 +1,27 @@
 // judge: reads one sheet from standard input and prints its listing (document 01, "The listing").
 #![tactic(auto)]
 
-ghost use Rattle.std.specs.Prelude.{◌≡◌, List, ℕ, ◌≤◌, length, take};
+ghost use Rattle.std.specs.Prelude.{◌≡◌, List, ℕ, ◌≤◌, length, take, IfOk};
 ghost use Rattle.format.specs.Reading.{reading};
 ghost use Rattle.page.specs.Page.{IsPage};
-ghost use Rattle.judge.specs.Input.{Within};
 
 use page::page;
 use std::io::{self, Read, Write};
 use terms::{Area, Text};
 
-// How much was taken in, at the start of the room that was lent.
-#[derive(Clone, Copy)]
-enum Input {
-    Kept(usize),
-    Failed,
-}
-
-// Takes standard input in, until it ends or the room is full, by reads that may be short.
-fn take_in<R: Read>(reader: &mut R, room: &mut [u8]) -> Input
-    ensures { Within result (length room.new) }
+// Takes standard input in, until it ends or the room is full, by reads that may be short; and how much, from the start of the room.
+fn take_in<R: Read>(reader: &mut R, room: &mut [u8]) -> io::Result<usize>
+    ensures { IfOk result (λ kept. kept ≤ length room.new) }
 {
-    let mut done = 0;
-    while done < room.len() {
-        let more = match reader.read(&mut room[done..]) {
-            Ok(more) => more,
-            Err(_) => return Input::Failed,
-        };
+    let mut kept = 0;
+    while kept < room.len() {
+        let more = reader.read(&mut room[kept..])?;
         if more == 0 {
-            return Input::Kept(done);
+            break;
         }
-        done += more;
+        kept += more;
     }
-    Input::Kept(done)
+    Ok(kept)
 }
 
 // What is printed for every input that begins with what was kept: a sheet's page depends on its first 2,891 bytes alone.
@@ -58,8 +47,8 @@ fn show<R: Print>(rt: &R, kept: &[u8])
 fn main(rt: HostRuntime) {
     let mut room = [0u8; Text::SIZE];
     match take_in(&mut rt.reader(), &mut room) {
-        Input::Kept(n) => show(&rt, &room[..n]),
-        Input::Failed => {
+        Ok(kept) => show(&rt, &room[..kept]),
+        Err(_) => {
             let _ = eprintln!(&rt;
                 "judge: standard input could not be read, so nothing was judged"
             );
