@@ -6,9 +6,7 @@ use Prim.Native.Nat.{ℕ, ◌+◌, ◌≤◌}
 use lib.ListN.{length}
 use Rattle.refusals.specs.declared.Refusal.{Refusal}
 use Rattle.format.specs.Read.{Read, ◌>>=◌, ◌>>◌}
-use Rattle.format.specs.Reading.{whole_at, opened_at}
 use Rattle.format.proofs.Parts.{never_both}
-use Rattle.format.proofs.Sound.{whole_sound, opened_sound}
 use Rattle.format.specs.Checked.{checked}
 use Rattle.refusals.specs.Refusals.{Check}
 
@@ -22,17 +20,8 @@ turned (Err q) e = cc
 
 -- one part after another: a refusal stops there, and behind a fine part the rest decides
 module _ {A B : Type 0} (x : Read A) {k : Check} (is : k ≡ checked x) where
-  pub stop_then : {r : Refusal} (y : Read B) → k ≡ Err r → k ≡ checked (x >> y)
-  stop_then y e = e ∙ ap (λ (x : Read A). checked (x >> y)) (sym (turned x (sym is ∙ e)))
-
   pub stop_bind : {r : Refusal} (f : A → Read B) → k ≡ Err r → k ≡ checked (x >>= f)
   stop_bind f e = e ∙ ap (λ (x : Read A). checked (x >>= f)) (sym (turned x (sym is ∙ e)))
-
-  pub go_then : (y : Read B) → k ≡ (Ok tt) → (x >> y) ≡ y
-  go_then y e = ap (λ (x : Read A). x >> y) (fine x (sym is ∙ e)).1
-
-  pub go_bind : (f : A → Read B) (e : k ≡ (Ok tt)) → (x >>= f) ≡ f (fine x (sym is ∙ e)).0
-  go_bind f e = ap (λ (x : Read A). x >>= f) (fine x (sym is ∙ e)).1
 
 -- a value that follows changes no answer
 pub then_sound : {A B : Type 0} (x : Read A) (b : B) → checked (x >> Ok b) ≡ checked x
@@ -42,10 +31,3 @@ then_sound (Err r) b = refl
 pub map_sound : {A B : Type 0} (x : Read A) (f : A → B) → checked (x >>= λ a. Ok (f a)) ≡ checked x
 map_sound (Ok a) f = refl
 map_sound (Err r) f = refl
-
--- where a record is whole it ends within the sheet
-pub whole_fits : (s : List ℕ) (at size : ℕ) → checked (whole_at s at size) ≡ (Ok tt) → at + size ≤ length s
-whole_fits s at size e = whole_sound s at size (fine (whole_at s at size) e).1
-
-pub opened_fits : (s : List ℕ) (at first second size : ℕ) → checked (opened_at s at first second size) ≡ (Ok tt) → at + size ≤ length s
-opened_fits s at first second size e = opened_sound s at first second size (fine (opened_at s at first second size) e).1

@@ -112,14 +112,6 @@ setting-sound s z q e =
 abbrev pub size_in : List ℕ → Size
 size_in s = size_of (byte s 2) (byte s 3)
 
-pub front_sound : (s : List ℕ) (q : Setting) → front_of s ≡ Ok q → (head_of s ≡ Ok (size_in s)) × (setting_of s (size_in s) ≡ Ok q) × (claims_from (size_in s) ≤ length s)
-unfolding front_of
-front_sound s q e =
-    let (z, e₁, f₁) = simp parts at e in
-    let p : z ≡ size_in s = (head_sound s z e₁).size in
-    let f : setting_of s (size_in s) ≡ Ok q = ap (setting_of s) (sym p) ∙ f₁ in
-    (e₁ ∙ ap Ok p, f, (setting-sound s (size_in s) q f).whole)
-
 -- one claim or more
 pub some_left : (at k size end : ℕ) → at + k * size ≡ end → at < end → 1 ≤ k
 some_left at zero size end e h = absurd (omega arith)

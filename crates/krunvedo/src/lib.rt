@@ -87,13 +87,7 @@ pub extern "C" fn krunvedo_pair(
     ensures marks_after { marks.new ≡ area_after (pair_check (reading sheet.now) (record { 0 = i }) (record { 0 = t }) (length marks.old) (length queue.old)) marks.old }
     ensures queue_after { queue.new ≡ area_after (pair_check (reading sheet.now) (record { 0 = i }) (record { 0 = t }) (length marks.old) (length queue.old)) queue.old }
 {
-    Paired::from(pairs::pair_of(
-        sheet,
-        Claim(i),
-        Transition(t),
-        marks,
-        queue,
-    ))
+    Paired::from(pairs::pair_of(sheet, Claim(i), Transition(t), marks, queue))
 }
 
 #[unsafe(no_mangle)]

@@ -8,16 +8,6 @@ use lib.ListN.{length, take, drop, replicate, length-append, length-drop, drop_o
 use lib.Seq.{drop_at, length-take-le}
 use Rattle.lent.specs.Wiped.{Wiped}
 
--- the part lent on has n entries, and so has what comes back
-pub part_long : (n : ℕ) (y old : List ℕ) → length y ≡ length (take n old) → n ≤ length old → length y ≡ n
-part_long n y old e l = e ∙ length-take-le n old l
-
-pub lent_length : (n : ℕ) (y old : List ℕ) → length y ≡ length (take n old) → n ≤ length old → length (y ++ drop n old) ≡ length old
-lent_length n y old e l = omega (arith, part_long n y old e l, length-append y (drop n old), length-drop n old)
-
-pub lent_wiped : (n : ℕ) (y old new : List ℕ) → length y ≡ length (take n old) → n ≤ length old → Wiped n (y ++ drop n old) new → Wiped n old new
-lent_wiped n y old new e l w = w ∙ ap (λ (m : List ℕ). replicate n 0 ++ m) (drop_at y (drop n old) n (part_long n y old e l))
-
 -- an area that is as long as what is wiped is zeros alone
 pub wiped_whole : (n : ℕ) (old new : List ℕ) → length old ≡ n → Wiped n old new → new ≡ replicate n 0
 wiped_whole n old new l w = w ∙ ap (λ (r : List ℕ). replicate n 0 ++ r) (drop_of_length-le old {i = n} (omega arith)) ∙ append-nil (replicate n 0)

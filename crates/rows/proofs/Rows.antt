@@ -24,9 +24,6 @@ unfolding words
 next s at zero = ap (λ (i : ℕ). word s i ∷ []) (omega arith)
 next s at (suc p) = ap (λ (ws : List ℕ). word s at ∷ ws) (next s (at + 2) p ∙ ap (λ (i : ℕ). words s (at + 2) p ++ (word s i ∷ [])) (omega arith))
 
-pub words_next : (s : List ℕ) (at p : ℕ) → words s at (p + 1) ≡ words s at p ++ (word s (at + 2 * p) ∷ [])
-words_next s at p = rw (add-one p) (next s at p)
-
 pub row_next : (row : List ℕ) (s : List ℕ) (at p x : ℕ) → p < length row → x ≡ word s (at + 2 * p) → take p row ≡ words s at p → take (p + 1) (set row p x) ≡ words s at (p + 1)
 row_next row s at p x l e i = rw (add-one p, take-suc-set row p x l, i, e) (sym (next s at p))
 

@@ -29,11 +29,6 @@ coefficient_range k e =
     let b = between (lt_z k (negsuc 99)) (le_z k (pos 100)) e in
     (lt-false k (negsuc 99) b.0, le-true k (pos 100) b.1)
 
-pub constant_range : (c : ℤ) → constant_fits c ≡ true → Constants c
-constant_range c e =
-    let b = between (lt_z c (negsuc 4999)) (le_z c (pos 5000)) e in
-    record { low = lt-false c (negsuc 4999) b.0; high = le-true c (pos 5000) b.1 }
-
 value_bound : (ks : List ℤ) (ws : List ℕ) → All IsCoefficient ks → All IsWeight ws → (value ks ws ≤ℤ pos (900 * length ws)) × (neg_ℤ (pos (900 * length ws)) ≤ℤ value ks ws)
 unfolding value All
 value_bound [] ws k w = simp linear (omega arith)
