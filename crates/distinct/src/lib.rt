@@ -15,6 +15,7 @@ pub fn distinct(k: &[i8], row: &mut [i8], places: &mut [u8]) -> usize
     for (p, c) in k.iter().enumerate() {
         if *c != 0 && !row[..n].contains(c) {
             row[n] = *c;
+            // `as`: p is below 16, and `u8::try_from` would add an error that never comes.
             places[n] = p as u8;
             n += 1;
         }

@@ -45,6 +45,7 @@ pub fn all_lines(
     let counts = sheet.counts();
     let mut writer = Writer::new(text);
     put_counts(&mut writer, counts);
+    // A line says its claim's number, so the loop is over numbers.
     for number in 1..=counts.claims {
         put_line(&mut writer, sheet, number, marks, queue);
     }

@@ -14,6 +14,7 @@ fn take_in<R: Read>(reader: &mut R, room: &mut [u8]) -> io::Result<usize>
     ensures { IfOk result (λ kept. kept ≤ length room.new) }
 {
     let mut kept = 0;
+    // Not `read_to_end`: there is no heap to read into.
     while kept < room.len() {
         let more = reader.read(&mut room[kept..])?;
         if more == 0 {

@@ -35,6 +35,7 @@ pub fn first_broken(
     ensures { FirstBroken sheet.now.setting.net half_space.now result }
 {
     let values = table_of(half_space.coefficients(), table);
+    // The number itself is the answer, so no `find` over records.
     for number in 1..=sheet.counts().transitions {
         if is_broken(half_space, values, &sheet.nth_arcs(number)) {
             return Some(Transition(number));

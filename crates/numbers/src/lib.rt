@@ -1,4 +1,5 @@
-// Answers as C takes them: numbers and rows of numbers, laid out as C lays them out. An enum's case is a number here.
+// Answers as C takes them: numbers and rows of numbers, laid out as C lays them out. An enum's case is a number here, and its place in the
+// enum where `as` says so, since C has neither `Option` nor `Result`.
 #![tactic(auto)]
 
 ghost use Rattle.std.specs.Prelude.{◌≡◌};

@@ -16,6 +16,7 @@ fn transitions(sheet: &[u8], extent: Extent) -> Result<(), Refusal>
     ensures fits { IfOk result (λ _. start_from (size_of extent.places extent.transitions) ≤ length sheet.now) }
     ensures value { result ≡ checked (transitions_at sheet.now extent.places transitions_from extent.transitions) }
 {
+    // Not an iterator: k is no index, but says where a record begins.
     for k in 0..extent.transitions {
         let at = extent.behind_transitions(k);
         transition(Cursor { sheet, at }, extent.places)?;
@@ -61,6 +62,7 @@ pub fn claims(sheet: &[u8], extent: Extent) -> Result<usize, Refusal>
         return Err(Refusal::NoClaim(sheet.len()));
     }
     let mut count = 0;
+    // Not `chunks`: a record that is cut has its refusal, and so has the 33rd.
     while at < sheet.len() {
         claim_due(Cursor { sheet, at }, extent.places, Claim::MOST - count)?;
         at += 4 + extent.places;

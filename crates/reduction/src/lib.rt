@@ -22,6 +22,7 @@ fn exact(z: i16, g: u16) -> i16
     requires { (1 ≤ g) × Divides g z }
     ensures { z ≡ result *ℤ pos g }
 {
+    // `as`: a quotient of an i16 is one, and `try_from` would add an error that never comes.
     (i32::from(z) / i32::from(g)) as i16
 }
 
@@ -32,6 +33,7 @@ fn row_divided(k: &[i8], g: u16) -> [i8; Place::MOST]
 {
     let mut row = [0; Place::MOST];
     for (p, z) in k.iter().enumerate() {
+        // `as`: likewise.
         row[p] = exact(i16::from(*z), g) as i8;
     }
     row

@@ -7,7 +7,7 @@ ghost use Rattle.remainders.specs.Steps.{Blank, Closed, Ready, Swept, Tabled};
 
 use amounts::Constant;
 
-// One more than the largest constant: no window asks for a value of that size.
+// One more than the largest constant: no window asks for a value of that size. `as`: a constant cannot call `from`.
 const FAR: u16 = Constant::MOST as u16 + 1;
 
 // The remainder s behind r.
@@ -40,6 +40,7 @@ fn chain(table: &mut [u16], k: usize, s: usize, start: usize)
     let a = table.len();
     let mut v = usize::from(table[start]) + k;
     let mut next = after(start, s, a);
+    // Not a `for`: the entries say where the chain ends. `as`: v is below an entry.
     while v < usize::from(table[next]) {
         table[next] = v as u16;
         v += k;
@@ -53,6 +54,7 @@ fn sweep(table: &mut [u16], k: usize)
     ensures { Swept (length table.old) k (length table.old) table.old table.new }
 {
     let s = k % table.len();
+    // Not an iterator: each chain writes into the whole table.
     for start in 0..table.len() {
         chain(table, k, s, start);
     }

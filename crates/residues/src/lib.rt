@@ -19,6 +19,7 @@ fn meets(table: &[u16], lo: i32, hi: i32) -> bool
     if hi < 0 {
         return false;
     }
+    // `as`: both ends are at least 0, and `usize::try_from` would add an error that never comes.
     let first = lo.max(0) as usize;
     let mut r = first % table.len();
     for v in first..=hi as usize {

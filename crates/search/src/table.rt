@@ -45,6 +45,7 @@ pub fn placed(window: Window<i32>, m: i32) -> Table
     let lo = start + window.lo;
     let hi = start + window.hi;
     let size = (start + 1).max(lo + m);
+    // `as`: none is below 0, and `usize::try_from` would add an error that never comes.
     Table {
         start: start as usize,
         size: size as usize,

@@ -22,7 +22,7 @@ impl Window<usize> {
 }
 
 // The position one step of k from v, and v itself where that lies outside the table. A sum below 0 wraps to more than any position:
-// one test then covers both ends. In 32 bits the step, which the whole search waits for, is shorter.
+// one test then covers both ends. In 32 bits the step, which the whole search waits for, is shorter; `as` for the same reason.
 fn next(v: usize, k: i8, size: usize) -> usize
     requires { (v < size) × (size ≤ 20000) }
     ensures { Next v (positive_part k) (negative_part k) size result }
@@ -58,6 +58,7 @@ impl<'a> Frontier<'a> {
         for (p, step) in self.steps.iter().enumerate() {
             let w = next(v, *step, mark.len());
             if mark[w] == 0 {
+                // `as`: both fit, and the search, which is the costliest loop, spends nothing on a test.
                 mark[w] = (p + 1) as u8;
                 queue[end] = w as u16;
                 end += 1;
@@ -73,7 +74,7 @@ impl<'a> Frontier<'a> {
         ensures reached { let s = self.new in Reaches s.steps.now s.mark.now s.queue.now start window.lo window.hi result }
     {
         self.mark[start] = 255;
-        self.queue[0] = start as u16;
+        self.queue[0] = start as u16; // fits, as above
         let mut head = 0;
         let mut tail = 1;
         // Not a `for`: the queue grows while it is read.

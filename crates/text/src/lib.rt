@@ -7,7 +7,7 @@ ghost use Rattle.text.specs.Writing.{Puts, HasRoom};
 
 use itoa::Buffer;
 
-// What is written so far stands at the area's start.
+// What is written so far stands at the area's start. A length beside the area, since there is no heap for a String.
 // No `fmt::Write` or `Display`: no clause of std rules out an `Err` of `write!`, and the public calls that print cannot fail.
 #[derive(Drop)]
 pub struct Writer<'a> {

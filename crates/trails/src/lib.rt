@@ -25,6 +25,7 @@ fn trail<const N: usize>(frontier: &Frontier<'_>, start: usize, h: usize) -> [u1
 {
     let mut x = [0u16; N];
     let mut w = usize::from(frontier.queue[h]);
+    // Not a `for`: how many steps there were shows only at the start.
     while w != start {
         let p = usize::from(frontier.mark[w]) - 1;
         w = former(w, frontier.steps[p]);

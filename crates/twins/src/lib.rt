@@ -28,6 +28,7 @@ pub fn first_twin(sheet: &Sheet<'_>, number: usize) -> Option<Claim>
     let half_space = sheet.nth_half_space(number);
     let form = reduced(half_space.coefficients(), half_space.constant());
     let pivot = pivot_of(&form.coefficients[..half_space.places()], form.constant);
+    // The number itself is the answer, so no `find` over records.
     for earlier in 1..number {
         if is_multiple(&sheet.nth_half_space(earlier), &form, pivot) {
             return Some(Claim(earlier));

@@ -11,6 +11,7 @@ use terms::Place;
 // A half space over the places of a net.
 #[derive(Drop)]
 pub struct HalfSpace {
+    // A row of the most places, since there is no heap; the first `places` of it count, and zeros stand behind them.
     row: [i8; Place::MOST],
     places: usize,
     constant: i16,
