@@ -76,7 +76,8 @@ impl From<u8> for Coefficient {
     }
 }
 
-// The constant of a half space, read from its two bytes as two's complement, the low byte first.
+// The constant of a half space, read from its two bytes as two's complement, the low byte first. Its `fits` is one line over its own
+// limits, as a coefficient's is: a trait would say that line in each impl, and its law besides.
 #[derive(Clone, Copy, Debug, PartialEq, Eq)]
 pub struct Constant(pub i16);
 

@@ -20,7 +20,7 @@ fn no_weight(row: &[u8]) -> Option<usize>
     row.iter().position(|byte| !Weight::from(*byte).fits())
 }
 
-// Where the first stands that is no coefficient.
+// Where the first stands that is no coefficient. A trait over both kinds of field would be longer than these two lines.
 fn no_coefficient(row: &[u8]) -> Option<usize>
     ensures { result ≡ position (λ b. not (coefficient_fits (twos8 b))) row.now }
 {
