@@ -1,9 +1,6 @@
 -- What a check's answer tells of the part that it checked: it is fine exactly where the part is sound, and it passes a refusal on.
 use Rattle.std.specs.Prelude.{Err, Ok}
 use mathlib.Core.Path.{◌≡◌, refl, sym, ap, ◌∙◌}
-use mathlib.Core.List.{List}
-use Prim.Native.Nat.{ℕ, ◌+◌, ◌≤◌}
-use lib.ListN.{length}
 use Rattle.refusals.specs.declared.Refusal.{Refusal}
 use Rattle.format.specs.Read.{Read, ◌>>=◌, ◌>>◌}
 use Rattle.format.proofs.Parts.{never_both}
@@ -20,8 +17,17 @@ turned (Err q) e = cc
 
 -- one part after another: a refusal stops there, and behind a fine part the rest decides
 module _ {A B : Type 0} (x : Read A) {k : Check} (is : k ≡ checked x) where
+  pub stop_then : {r : Refusal} (y : Read B) → k ≡ Err r → k ≡ checked (x >> y)
+  stop_then y e = e ∙ ap (λ (x : Read A). checked (x >> y)) (sym (turned x (sym is ∙ e)))
+
   pub stop_bind : {r : Refusal} (f : A → Read B) → k ≡ Err r → k ≡ checked (x >>= f)
   stop_bind f e = e ∙ ap (λ (x : Read A). checked (x >>= f)) (sym (turned x (sym is ∙ e)))
+
+  pub go_then : (y : Read B) → k ≡ (Ok tt) → (x >> y) ≡ y
+  go_then y e = ap (λ (x : Read A). x >> y) (fine x (sym is ∙ e)).1
+
+  pub go_bind : (f : A → Read B) (e : k ≡ (Ok tt)) → (x >>= f) ≡ f (fine x (sym is ∙ e)).0
+  go_bind f e = ap (λ (x : Read A). x >>= f) (fine x (sym is ∙ e)).1
 
 -- a value that follows changes no answer
 pub then_sound : {A B : Type 0} (x : Read A) (b : B) → checked (x >> Ok b) ≡ checked x

@@ -14,7 +14,7 @@ use Rattle.terms.specs.Limits.{most_claims}
 use Rattle.nets.specs.Nets.{Transition}
 use Rattle.nets.specs.Verdicts.{Setting}
 use Rattle.format.specs.Contents.{Claim, Contents}
-use Rattle.format.specs.Reading.{byte, words, transition_size, claim_size, Size, size_of, head_of, transition_in, transitions_at, target_in, claim_in, claim_due, claims_at, transitions_from, start_from, target_from, claims_from, setting_of, front_of, claims_of, reading}
+use Rattle.format.specs.Reading.{byte, words, transition_size, claim_size, Size, size_of, head_of, transition_in, transitions_at, target_in, claim_in, claim_due, claims_at, transitions_from, start_from, target_from, claims_from, setting_of, claims_of, reading}
 use Rattle.format.proofs.Parts.{parts, then_first, choose_either}
 use Rattle.format.proofs.Sound.{head_sound, transition-sound, start_sound, target_sound, due_sound}
 

@@ -11,11 +11,13 @@ use Rattle.refusals.specs.declared.Refusal.{Refusal}
 use Rattle.refusals.specs.declared.Refusal.TheVariants.{Cut, Mark, Size, Weight, Kind, Coefficient, Constant, TooManyClaims, NoClaim, NotAClaim, NotATransition, SmallArea, NotEnabled, TooManyTokens, LongList, AllZero, SmallText}
 use Rattle.terms.specs.declared.Claim.{Claim}
 use Rattle.terms.specs.declared.Transition.{Transition}
-use Rattle.format.specs.Read.{Read}
+use Rattle.terms.specs.Limits.{among}
+use Rattle.nets.specs.Nets.{transition}
+use Rattle.format.specs.Read.{Read, map_ok, need, choose}
 use Rattle.format.specs.Contents.{Contents}
 use Rattle.format.specs.Reading.{reading}
 use Rattle.format.specs.Checked.{checked}
-use Rattle.sheet.specs.Held.{weights_of}
+use Rattle.sheet.specs.Held.{weights_of, weights_shown, transition_check}
 use Rattle.claims.specs.Held.{claim_check}
 use Rattle.pairs.specs.Pairs.{pair_check}
 use Rattle.verdicts.specs.Judged.{verdict_check}
@@ -66,6 +68,16 @@ traced_number a = by_answer a.position a.answer
     by_answer p (Ok u) = refl
     by_answer p (Err r) = refl
 
+-- what the weights' answer passes on
+pub weights_check : (y : Read Contents) (t : Transition) → checked (weights_of y t) ≡ transition_check y t
+unfolding weights_of
+weights_check (Err r) t = refl
+weights_check (Ok x) t = by (among t.0 (length x.setting.net.transitions))
+  where
+    by : (q : Bool) → checked (map_ok weights_shown (choose q (Ok (transition x.setting.net t.0)) (Err (NotATransition t)))) ≡ need q (NotATransition t)
+    by true = refl
+    by false = refl
+
 -- The number 0 says that nothing is refused, of each check that the exports pass on.
 module _ (s : List ℕ) where
   pub read_zero : (check_is (checked (reading s))).number ≡ 0 → checked (reading s) ≡ Ok tt
@@ -74,8 +86,8 @@ module _ (s : List ℕ) where
   pub claim-zero : (i : Claim) → (check_is (claim_check (reading s) i)).number ≡ 0 → claim_check (reading s) i ≡ Ok tt
   claim-zero i = zero_fine (claim_check (reading s) i)
 
-  pub transition-zero : (t : Transition) → (check_is (checked (weights_of (reading s) t))).number ≡ 0 → checked (weights_of (reading s) t) ≡ Ok tt
-  transition-zero t = zero_fine (checked (weights_of (reading s) t))
+  pub transition-zero : (t : Transition) → (check_is (transition_check (reading s) t)).number ≡ 0 → transition_check (reading s) t ≡ Ok tt
+  transition-zero t = zero_fine (transition_check (reading s) t)
 
   pub pair_zero : (i : Claim) (t : Transition) (m q : ℕ) → (check_is (pair_check (reading s) i t m q)).number ≡ 0 → pair_check (reading s) i t m q ≡ Ok tt
   pair_zero i t m q = zero_fine (pair_check (reading s) i t m q)

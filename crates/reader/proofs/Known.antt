@@ -26,6 +26,9 @@ all_at P d [] i l a = absurd (omega arith)
 all_at P d (x ∷ xs) zero l a = a.0
 all_at P d (x ∷ xs) (suc i) l a = all_at P d xs i (omega arith) a.1
 
+pub same_contents : (s : List ℕ) (x y : Contents) → reading s ≡ Ok x → reading s ≡ Ok y → x ≡ y
+same_contents s x y e f = cc
+
 module _ (s : List ℕ) (k : Counts) (q : Known s k) where
   abbrev x : Contents
   x = contents_of s

@@ -1,5 +1,6 @@
 -- What the reader's answer tells: a sound one comes of sound contents with these counts, and a refusal is the sheet's.
-use mathlib.Core.Path.{◌≡◌, sym, ap, ◌∙◌}
+use Rattle.std.specs.Prelude.{Ok, Err}
+use mathlib.Core.Path.{◌≡◌, refl, sym, ap, ◌∙◌}
 use mathlib.Core.List.{List}
 use Prim.Native.Nat.{ℕ, suc, ◌+◌, ◌-◌, ◌*◌, ◌≤◌, ◌<◌}
 use native.Mathlib.Nat.{mul-le-mul_right}
@@ -11,6 +12,8 @@ use lib.ListN.{length, take, drop}
 use borrow.Author.Tests.{leb-true}
 use Rattle.terms.specs.Limits.{among}
 use Rattle.format.proofs.Sound.{cond-true}
+use Rattle.refusals.specs.declared.Refusal.{Refusal}
+use Rattle.format.specs.Read.{Read, map_ok}
 use Rattle.nets.specs.Nets.{transition, none}
 use Rattle.format.specs.Contents.{Contents, claim, no_claim}
 use Rattle.format.specs.Reading.{size_of, words, transition_in, target_in, claim_in, transition_size, claim_size, transitions_from, target_from, claims_from}
@@ -19,6 +22,17 @@ use Rattle.format.proofs.Places.{size_in, Held}
 use Rattle.format.proofs.ClaimRecord.{RecordStands}
 use Rattle.reader.specs.Answers.{counts_of}
 use Rattle.reader.specs.declared.Counts.{Counts}
+
+never : {k : Counts} {r : Refusal} → ◌≡◌ {A = Read Counts} (Ok k) (Err r) → ⊥
+never e = let z : ◌≡◌ {A = ℕ} 0 1 = cc in omega arith
+
+pub sound_answer : (y : Read Contents) {k : Counts} → map_ok counts_of y ≡ Ok k → (x : Contents) × (y ≡ Ok x) × (counts_of x ≡ k)
+sound_answer (Ok x) e = (x, refl, cc)
+sound_answer (Err r) e = absurd (never (sym e))
+
+pub refused_answer : (y : Read Contents) {r : Refusal} → map_ok counts_of y ≡ Err r → y ≡ Err r
+refused_answer (Ok x) e = absurd (never e)
+refused_answer (Err q) e = cc
 
 pub among_some : (i count : ℕ) → among i count ≡ true → (1 ≤ i) × (i ≤ count)
 among_some i count e =

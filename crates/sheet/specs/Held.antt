@@ -1,14 +1,21 @@
 -- What the calls answer for the net, the start and the target of a sheet: the sheet's refusal, then 12, then the numbers, sixteen of them and zero beyond place n.
-use Rattle.std.specs.Prelude.{List, ℕ}
+use Rattle.std.specs.Prelude.{List, ℕ, length}
+use Rattle.terms.specs.Limits.{among}
 use Rattle.terms.specs.declared.Transition.{Transition}
+use Rattle.refusals.specs.Refusals.{Check}
+use Rattle.refusals.specs.declared.Refusal.TheVariants.{NotATransition}
 use Rattle.nets.specs.Nets as nets
 use Rattle.nets.specs.HalfSpaces.{sixteen}
-use Rattle.format.specs.Read.{Read, ◌>>=◌, map_ok}
+use Rattle.format.specs.Read.{Read, ◌>>=◌, map_ok, need}
 use Rattle.format.specs.Contents.{Contents}
 use Rattle.reader.specs.Numbered.{transition_numbered}
 use Rattle.reader.specs.Targets.{target_shown}
 use Rattle.reader.specs.declared.Target.{Target}
 use Rattle.sheet.specs.declared.Weights.{Weights}
+
+-- whether transition t is there: the sheet's own refusal, then 12
+abbrev pub transition_check : Read Contents → Transition → Check
+transition_check y t = y >>= λ x. need (among t.0 (length x.setting.net.transitions)) (NotATransition t)
 
 -- the weights of transition t
 abbrev pub weights_shown : nets.Transition → Weights

@@ -14,10 +14,10 @@ use borrow.Author.Tests.{leb-true}
 use Rattle.std.proofs.lemmas.List.{map-id}
 use Rattle.signed.specs.Linear.{linear, mul-le, mul_ge}
 use Rattle.signed.specs.Parts.{lt-false, le-true}
-use Rattle.terms.specs.Limits.{coefficient_fits, constant_fits}
+use Rattle.terms.specs.Limits.{coefficient_fits}
 use Rattle.nets.specs.HalfSpaces.{value}
 use Rattle.format.specs.Formed.{All, IsCoefficient, IsWeight}
-use Rattle.values.specs.Range.{Constants, Values}
+use Rattle.values.specs.Range.{Values}
 
 -- a number that is not below one end and not above the other
 between : (t u : Bool) → cond t false u ≡ true → (t ≡ false) × (u ≡ true)

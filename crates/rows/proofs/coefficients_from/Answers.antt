@@ -1,4 +1,4 @@
-use Rattle.std.proofs.Common.{sym, ap, ◌∙◌, arith, ◌+◌, ◌-◌, pos, map}
+use Rattle.std.proofs.Common.{ap, ◌∙◌, arith, ◌+◌, ◌-◌, pos, map}
 use Rattle.signed.specs.Twos.{twos8}
 use Rattle.format.specs.Reading.{bytes}
 use Rattle.format.proofs.Standing.{part_bytes}

@@ -1,4 +1,4 @@
-use Rattle.std.proofs.Common.{arith, length}
+use Rattle.std.proofs.Common.{arith}
 use Rattle.rows.proofs.Rows.{words_none, row_next}
 use Rattle.rows.proofs.fill_tokens.Goals as goal
 
