@@ -14,7 +14,7 @@ use Rattle.terms.specs.Limits.{most_claims}
 use Rattle.nets.specs.Nets.{Transition}
 use Rattle.nets.specs.Verdicts.{Setting}
 use Rattle.format.specs.Contents.{Claim, Contents}
-use Rattle.format.specs.Reading.{byte, words, transition_size, claim_size, Size, size_of, head_of, transition_in, transitions_at, target_in, claim_in, claim_due, claims_at, transitions_from, start_from, target_from, claims_from, setting_of, claims_of, reading}
+use Rattle.format.specs.Reading.{byte, words, transition_size, claim_size, Size, size_of, head_of, transition_in, transitions_at, target_in, claim_in, claim_due, claims_at, transitions_from, start_from, target_from, claims_from, setting_of, front_of, claims_of, reading}
 use Rattle.format.proofs.Parts.{parts, then_first, choose_either}
 use Rattle.format.proofs.Sound.{head_sound, transition-sound, start_sound, target_sound, due_sound}
 
@@ -111,6 +111,14 @@ setting-sound s z q e =
 -- n and T as they stand in the sheet
 abbrev pub size_in : List ℕ → Size
 size_in s = size_of (byte s 2) (byte s 3)
+
+pub front_sound : (s : List ℕ) (q : Setting) → front_of s ≡ Ok q → (head_of s ≡ Ok (size_in s)) × (setting_of s (size_in s) ≡ Ok q) × (claims_from (size_in s) ≤ length s)
+unfolding front_of
+front_sound s q e =
+    let (z, e₁, f₁) = simp parts at e in
+    let p : z ≡ size_in s = (head_sound s z e₁).size in
+    let f : setting_of s (size_in s) ≡ Ok q = ap (setting_of s) (sym p) ∙ f₁ in
+    (e₁ ∙ ap Ok p, f, (setting-sound s (size_in s) q f).whole)
 
 -- one claim or more
 pub some_left : (at k size end : ℕ) → at + k * size ≡ end → at < end → 1 ≤ k

@@ -8,7 +8,7 @@ use amounts::Kind;
 use layout::Extent;
 use refusals::Refusal;
 use rows::{numbers_at, tokens_from};
-pub use scan::measure;
+pub use scan::{front, measure};
 use std::marker::Model;
 use terms::{Claim, Place, Transition, among};
 use values::{Arcs, HalfSpace};
