@@ -4,7 +4,6 @@ use Rattle.std.proofs.Common.{refl, sym, ap, ◌∙◌, arith}
 use Rattle.std.specs.List.{position, list_any}
 use Rattle.refusals.specs.declared.Refusal.{Refusal}
 use Rattle.refusals.specs.Refusals.{Check}
-use lib.Seq.{take_at}
 use borrow.Author.Tests.{eqb-true}
 use Rattle.format.specs.Encoding.{signed_byte}
 use Rattle.format.proofs.Nonzero.{size_zero}

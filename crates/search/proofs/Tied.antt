@@ -8,8 +8,7 @@ use lib.ListN.{length, take, length-map}
 use lib.Seq.{length-take-le}
 use Rattle.std.proofs.Common.{Option, Some, None}
 use Rattle.std.specs.Prelude.{IfSome}
-use lib.Signed.{◌<ℤ◌}
-use Rattle.signed.specs.Parts.{positive_part, negative_part, add_parts, positive_part-mul, negative_part-mul, le_in, le_out, lt_in}
+use Rattle.signed.specs.Parts.{positive_part, negative_part, add_parts, positive_part-mul, negative_part-mul, le_in, le_out}
 use Rattle.nets.specs.HalfSpaces.{value}
 use Rattle.sums.specs.Sum.{total, dot, ups, downs, Hits}
 use Rattle.trails.specs.Led.{Leads}
