@@ -1,5 +1,5 @@
 -- Where a claim's record stands, as numbers: the range that the call answers, or zeros where it refuses.
-use Rattle.std.proofs.Common.{◌≡◌, sym, ap, refl, List, ℕ, ◌-◌, length, Ok, Err, IfOk}
+use Rattle.std.proofs.Common.{◌≡◌, sym, refl, List, ℕ, ◌-◌, length, Ok, Err, IfOk}
 use native.Mathlib.Omega.{arith}
 use Rattle.std.specs.declared.ops.Range.{Range}
 use Rattle.terms.specs.declared.Claim.{Claim}
