@@ -12,7 +12,7 @@ use terms::Place;
 use values::Arcs;
 
 // The lowest place that has fewer tokens than are taken.
-fn short(tokens: &[u16], taken: &[u8]) -> Result<(), Refusal>
+pub fn short(tokens: &[u16], taken: &[u8]) -> Result<(), Refusal>
     requires { length taken.now ≡ length tokens.now }
     ensures { result ≡ lowest_short (length tokens.now) taken.now tokens.now }
 {
@@ -25,7 +25,7 @@ fn short(tokens: &[u16], taken: &[u8]) -> Result<(), Refusal>
 }
 
 // The lowest place that would pass the most tokens, once those taken have left.
-fn over(tokens: &[u16], taken: &[u8], put: &[u8]) -> Result<(), Refusal>
+pub fn over(tokens: &[u16], taken: &[u8], put: &[u8]) -> Result<(), Refusal>
     requires taken { length taken.now ≡ length tokens.now }
     requires put { length put.now ≡ length tokens.now }
     requires enabled { lowest_short (length tokens.now) taken.now tokens.now ≡ Ok tt }
@@ -41,7 +41,7 @@ fn over(tokens: &[u16], taken: &[u8], put: &[u8]) -> Result<(), Refusal>
 }
 
 // A firing that no place refuses.
-fn move_on(tokens: &mut [u16], taken: &[u8], put: &[u8])
+pub fn move_on(tokens: &mut [u16], taken: &[u8], put: &[u8])
     requires taken { length taken.now ≡ length tokens.old }
     requires put { length put.now ≡ length tokens.old }
     requires enabled { lowest_short (length tokens.old) taken.now tokens.old ≡ Ok tt }

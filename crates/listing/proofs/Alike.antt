@@ -1,6 +1,6 @@
 -- Two listings of one sheet differ in the choice among bad markings alone: a claim has one verdict but for that, and one twin's number.
 use Rattle.std.specs.Prelude.{Err, Ok}
-use mathlib.Core.Path.{◌≡◌, refl, sym, ap, ap₂, ◌∙◌}
+use mathlib.Core.Path.{◌≡◌, refl, sym, ap, ap₂, ◌∙◌, subst}
 use mathlib.Core.Bool.{Bool, true, false}
 use mathlib.Core.List.{List, ◌++◌}
 use Prim.Native.Nat.{ℕ, zero, suc, ◌≤◌}
@@ -13,6 +13,7 @@ use Rattle.nets.proofs.OneVerdict.{one_verdict}
 use Rattle.format.specs.Read.{Read}
 use Rattle.format.specs.Contents.{Contents, half_space, claim}
 use Rattle.refusals.specs.Refusals.{Check}
+use Rattle.twins.specs.Answers.{IsTwinNumber}
 use Rattle.twins.proofs.OneAnswer.{one_number}
 use Rattle.firstline.specs.FirstLine.{refused_line}
 use Rattle.lines.specs.Lines.{claim_line}
@@ -28,6 +29,7 @@ module _ (x : Contents) where
         another = q.verdict;
         same = one_verdict x.setting (half_space (claim x i)) p.verdict q.verdict p.is_verdict q.is_verdict;
         twin = p.twin;
+        numbered = λ j e. (subst (IsTwinNumber x i) e p.is_twin).some;
         is = p.is;
         other_is = q.is ∙ ap (claim_line i q.verdict) (one_number x i q.twin p.twin q.is_twin p.is_twin);
       }

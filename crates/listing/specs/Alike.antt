@@ -1,5 +1,5 @@
 -- When two listings of a sheet are alike: they differ in the choice among bad markings alone.
-use Rattle.std.specs.Prelude.{◌≡◌, List, [], ◌++◌, ℕ, zero, suc, length, drop, Option, Err, Ok}
+use Rattle.std.specs.Prelude.{◌≡◌, ◌≤◌, List, [], ◌++◌, ℕ, zero, suc, length, drop, Option, Some, Err, Ok}
 use Rattle.terms.specs.declared.Claim.{Claim}
 use Rattle.refusals.specs.declared.Refusal.{Refusal}
 use Rattle.nets.specs.Nets.{Marking}
@@ -15,6 +15,7 @@ pub record LineAlike (i : ℕ) (line other : List ℕ) : Type 0 where
   pub another : Verdict
   pub same : SameBut verdict another
   pub twin : Option Claim
+  pub numbered : (j : Claim) → twin ≡ Some j → 1 ≤ j.0
   pub is : line ≡ claim_line i verdict twin
   pub other_is : other ≡ claim_line i another twin
 

@@ -22,6 +22,7 @@ fn meets(table: &[u16], lo: i32, hi: i32) -> bool
     // `as`: both ends are at least 0, and `usize::try_from` would add an error that never comes.
     let first = lo.max(0) as usize;
     let mut r = first % table.len();
+    // Not an iterator over the table: v is the value asked for, and r goes round beside it.
     for v in first..=hi as usize {
         if usize::from(table[r]) <= v {
             return true;

@@ -6,5 +6,6 @@ use Rattle.spreading.specs.declared.Frontier.{Frontier}
 pub record SameAreas (f g : Frontier) : Type 0 where
   pub steps : g.steps.now ≡ f.steps.now
   pub size : length g.mark.now ≡ length f.mark.now
+  pub room : length g.queue.now ≡ length f.queue.now
   pub mark : g.mark.ghost_name ≡ f.mark.ghost_name
   pub queue : g.queue.ghost_name ≡ f.queue.ghost_name

@@ -31,7 +31,7 @@ fn next(v: usize, k: i8, size: usize) -> usize
     if w < size { w } else { v }
 }
 
-// A search's steps, and its two areas: a mark for each position, and the queue.
+// A search's steps, and its two areas, which the caller lends, since there is no heap: a mark for each position, and the queue.
 #[derive(Drop)]
 pub struct Frontier<'a> {
     pub steps: &'a [i8],

@@ -14,7 +14,7 @@ loop-head-init c =
     let r = c.requires.start_in_bounds in
     let room : 0 < length f.queue.now = omega (arith, f.sizes.room, r.0) in (
       omega arith,
-      record { steps = refl; size = refl; mark = refl; queue = refl },
+      record { steps = refl; size = refl; room = refl; mark = refl; queue = refl },
       record { some = omega arith; first = get_or-set_same f.queue.now 0 a.start 0 room; state = begun f.steps.now f.mark.now f.queue.now a.start r.0 f.sizes.room r.1 },
       λ i l. absurd (omega arith),
     )
