@@ -23,7 +23,13 @@ def check_library(checks: Checks) -> None:
     expected = "".join(line + "\n" for line in expected_lines())
     checks.equal("the library from C", FIRST, expected, output_of(c_program("example"), TIME_LIMIT, input=FIRST))
     print(f"library: linked by {COMPILER}")
+    checks.equal("what the library needs from outside (krunvedo.h)", b"", ["memcpy", "memset"], needed_names())
     check_rust(checks)
+
+
+def needed_names() -> list[str]:
+    listed = output_of(["nm", "-u", str(ARCHIVES / "libkrunvedo.a")], TIME_LIMIT)
+    return sorted({words[1] for words in map(str.split, listed.splitlines()) if words[:1] == ["U"]})
 
 
 def check_rust(checks: Checks) -> None:
