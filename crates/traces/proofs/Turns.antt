@@ -12,7 +12,7 @@ use Rattle.format.specs.Read.{Read}
 use Rattle.format.specs.Contents.{Contents}
 use Rattle.walk.specs.Walk.{step_of}
 use Rattle.walk.specs.declared.Marking.{Marking}
-use Rattle.walk.specs.Walk.{Moved}
+use Rattle.walk.specs.declared.Moved.{Moved}
 use Rattle.traces.specs.Traces.{Traced}
 use Rattle.traces.specs.Traces.{traced, numbered, unless, steps_from}
 

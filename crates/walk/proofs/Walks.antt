@@ -22,7 +22,7 @@ use Rattle.firing.specs.Firing.{fired_in}
 use Rattle.walk.specs.Walk.{moved_to, step_of, begun, begin_of, walked, AllFine}
 use Rattle.firing.specs.Table.{StaysWithin}
 use Rattle.walk.specs.declared.Marking.{Marking}
-use Rattle.walk.specs.Walk.{Moved}
+use Rattle.walk.specs.declared.Moved.{Moved}
 use Rattle.firing.proofs.Fires.{fire-length}
 use Rattle.walk.proofs.Exactly.{length_places, taken_long, put_long, fine_exactly}
 

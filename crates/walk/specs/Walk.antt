@@ -10,6 +10,7 @@ use Rattle.format.specs.Contents.{Contents}
 use Rattle.refusals.specs.Refusals.{Check}
 use Rattle.firing.specs.Firing.{lowest_short, lowest_over, fired_in}
 use Rattle.walk.specs.declared.Marking.{Marking}
+use Rattle.walk.specs.declared.Moved.{Moved}
 
 -- the first refusal of a list, in its order
 abbrev pub first : List Check → Check
@@ -24,11 +25,6 @@ no_such_transition net t = choose (among t.0 (length net.transitions)) (Ok tt) (
 -- what a firing is refused for, in order
 abbrev pub firing_checks : ℕ → nets.Transition → nets.Marking → List Check
 firing_checks n t m = lowest_short n t.taken m ∷ lowest_over n (nets.fire t m) ∷ []
-
--- What a step answers, and the marking afterwards.
-pub record Moved : Type 0 where
-  pub answer : Check
-  pub marking : Marking
 
 -- A refusal changes no marking.
 abbrev pub moved_to : Check → List ℕ → Marking → Marking

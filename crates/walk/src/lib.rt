@@ -16,6 +16,13 @@ pub struct Marking {
     pub tokens: [u16; Place::MOST],
 }
 
+// What a step answers, and the marking afterwards.
+#[derive(Clone, Copy, Debug, PartialEq, Eq)]
+pub struct Moved {
+    pub answer: Result<(), Refusal>,
+    pub marking: Marking,
+}
+
 // The sheet's start, with zeros beyond its places.
 pub fn begin(bytes: &[u8]) -> Result<Marking, Refusal>
     ensures { result ≡ begin_of (reading bytes.now) }
@@ -39,4 +46,13 @@ pub fn step(m: &mut Marking, bytes: &[u8], transition: Transition) -> Result<(),
 {
     let sheet = Sheet::read(bytes)?;
     step_in(m, &sheet, transition)
+}
+
+// The step by value: the marking as it is afterwards, and as it was where the step is refused.
+pub fn step_from(m: Marking, bytes: &[u8], transition: Transition) -> Moved
+    ensures { result ≡ step_of (reading bytes.now) transition m }
+{
+    let mut marking = m;
+    let answer = step(&mut marking, bytes, transition);
+    Moved { answer, marking }
 }
