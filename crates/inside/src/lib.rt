@@ -1,7 +1,7 @@
 // Do the start, or some target marking, lie inside?
 #![tactic(auto)]
 
-ghost use Rattle.std.specs.Prelude.{◌≡◌, ◌↔◌, IsTrue, length};
+ghost use Rattle.std.specs.Prelude.{◌≡◌, ◌↔◌, IsTrue, ◌≤◌, length};
 ghost use Rattle.nets.specs.HalfSpaces.{Inside};
 ghost use Rattle.nets.specs.Verdicts.{Setting, TargetInside};
 ghost use Rattle.reader.specs.Targets.{target_shown};
@@ -9,24 +9,25 @@ ghost use Rattle.reader.specs.Targets.{target_shown};
 use amounts::Kind;
 use reader::Target;
 use tables::signs::some_above;
-use values::HalfSpace;
+use values::value_of;
 
 // Does a marking lie inside?
 #[tactic(auto, unfolding(nets::specs::HalfSpaces::Inside))]
-pub fn is_inside(half_space: &HalfSpace, tokens: &[u16]) -> bool
-    requires { length tokens.now ≡ length half_space.now.coefficients }
-    ensures { IsTrue result ↔ Inside half_space.now tokens.now }
+pub fn is_inside(coefficients: &[i8], constant: i16, tokens: &[u16]) -> bool
+    requires { (length coefficients.now ≤ 16) × (length tokens.now ≡ length coefficients.now) }
+    ensures { IsTrue result ↔ Inside (record { coefficients = coefficients.now; constant = constant }) tokens.now }
 {
-    i32::from(half_space.constant()) <= half_space.value(tokens)
+    i32::from(constant) <= value_of(coefficients, tokens)
 }
 
 // Does some marking of the target: the written one, or for kind 1 one above it?
-pub fn target_inside(half_space: &HalfSpace, target: Target) -> bool
-    ensures { (q : Setting) → target ≡ target_shown q.target → length q.target.tokens ≡ length half_space.now.coefficients → (IsTrue result ↔ TargetInside q half_space.now) }
+pub fn target_inside(coefficients: &[i8], constant: i16, target: Target) -> bool
+    requires { length coefficients.now ≤ 16 }
+    ensures { (q : Setting) → target ≡ target_shown q.target → length q.target.tokens ≡ length coefficients.now → (IsTrue result ↔ TargetInside q (record { coefficients = coefficients.now; constant = constant })) }
 {
-    let written = is_inside(half_space, &target.tokens[..half_space.places()]);
+    let written = is_inside(coefficients, constant, &target.tokens[..coefficients.len()]);
     match target.kind {
         Kind::Exact => written,
-        Kind::AtOrAbove => written || some_above(half_space.coefficients()),
+        Kind::AtOrAbove => written || some_above(coefficients),
     }
 }

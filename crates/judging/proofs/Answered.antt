@@ -1,5 +1,5 @@
 -- The verdict once each question is answered.
-use Rattle.std.proofs.Common.{◌≡◌, refl, sym, ap, ◌∙◌, subst, ◌↔◌, List, ℕ, length, take, Bool, true, false, IsTrue, Option, Some, None, IsSome}
+use Rattle.std.proofs.Common.{◌≡◌, refl, sym, ap, ◌∙◌, subst, ℤ, ◌↔◌, List, ℕ, length, take, Bool, true, false, IsTrue, Option, Some, None, IsSome}
 use Rattle.std.proofs.lemmas.Bool.{false≢true}
 use Rattle.terms.specs.declared.Transition.{Transition}
 use Rattle.nets.specs.Nets as net
@@ -7,6 +7,7 @@ use Rattle.nets.specs.Nets.{IsTransition, transition}
 use Rattle.nets.specs.HalfSpaces.{HalfSpace, Inside, Outside, Kept, Broken, sixteen}
 use Rattle.nets.specs.Verdicts as nets
 use Rattle.nets.specs.Verdicts.{Setting, TargetInside, Separates, IsVerdict}
+use Rattle.values.proofs.Same.{same_space}
 use Rattle.crossing.specs.Crosses.{Crosses}
 use Rattle.inside.proofs.Targets.{inside_shown}
 use Rattle.lowest.specs.Lowest.{FirstBroken}
@@ -17,6 +18,14 @@ use Rattle.reader.specs.Targets.{target_shown}
 
 not_so : {Q : Type 0} (t : Bool) → t ≡ false → (IsTrue t ↔ Q) → Q → ⊥
 not_so t f told x = false≢true (sym f ∙ told.1 x)
+
+-- what was asked of the coefficients and the constant was asked of the half space
+pub inside_of : (h : HalfSpace) (m : List ℕ) {ks : List ℤ} {k : ℤ} {t : Bool} → (IsTrue t ↔ Inside (record { coefficients = ks; constant = k }) m) → ks ≡ h.coefficients → k ≡ h.constant → IsTrue t ↔ Inside h m
+inside_of h m {ks} {k} {t} told e f = subst (λ (s : HalfSpace). IsTrue t ↔ Inside s m) (same_space h ks k e f) told
+
+pub target_of : (h : HalfSpace) {ks : List ℤ} {k : ℤ} {t : Bool} {g : Target} → ((p : Setting) → g ≡ target_shown p.target → length p.target.tokens ≡ length ks → IsTrue t ↔ TargetInside p (record { coefficients = ks; constant = k })) → ks ≡ h.coefficients → k ≡ h.constant
+    → (p : Setting) → g ≡ target_shown p.target → length p.target.tokens ≡ length h.coefficients → IsTrue t ↔ TargetInside p h
+target_of h {ks} {k} {t} {g} told e f = subst (λ (s : HalfSpace). (p : Setting) → g ≡ target_shown p.target → length p.target.tokens ≡ length s.coefficients → IsTrue t ↔ TargetInside p s) (same_space h ks k e f) told
 
 -- the start as it is shown was asked
 module _ (q : Setting) (h : HalfSpace) (n : ℕ) (tokens : List ℕ) (some : n ≡ length h.coefficients) (start : tokens ≡ sixteen 0 q.start) (in_start : Bool) (told_start : IsTrue in_start ↔ Inside h (take n tokens)) where

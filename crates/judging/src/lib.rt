@@ -24,11 +24,13 @@ pub fn judge(
     requires { length half_space.now.coefficients ≡ sheet.now.setting.net.places }
     ensures { Judges sheet.now.setting half_space.now result }
 {
+    let coefficients = half_space.coefficients();
+    let constant = half_space.constant();
     let start = sheet.start();
-    if !is_inside(half_space, &start[..half_space.places()]) {
+    if !is_inside(coefficients, constant, &start[..coefficients.len()]) {
         return Verdict::StartOutside;
     }
-    if target_inside(half_space, sheet.target()) {
+    if target_inside(coefficients, constant, sheet.target()) {
         return Verdict::TargetInside;
     }
     let Some(transition) = first_broken(half_space, sheet, queue) else {

@@ -1,4 +1,4 @@
-// Is a claim of the sheet a whole number of times a reduced form? No divisor is searched for: the number shows at one place.
+// Is a claim a whole number of times a reduced form? No divisor is searched for: the number shows at one place.
 #![tactic(auto)]
 
 ghost use Rattle.std.specs.Prelude.{◌≡◌, ◌↔◌, IsTrue, map, ℤ, pos, nat_abs, ◌*ℤ◌, ◌≤◌, length};
@@ -6,7 +6,6 @@ ghost use Rattle.reduction.specs.Divisors.{space_of};
 ghost use Rattle.multiples.specs.Multiples.{IsMultiple, entry, IsPivot, factor_of};
 
 use reduction::Form;
-use values::HalfSpace;
 
 // A place of a form where it isn't zero, counted from 0 with the constant behind the coefficients, and the size of the number there.
 #[derive(Clone, Copy, Debug, PartialEq, Eq)]
@@ -32,15 +31,14 @@ pub fn pivot_of(k: &[i8], c: i16) -> Pivot
 }
 
 // The size of the number at a place of a claim.
-fn size_in(claim: &HalfSpace, place: usize) -> u16
-    requires { place ≤ length claim.now.coefficients }
-    ensures { result ≡ nat_abs (entry claim.now place) }
+fn size_in(coefficients: &[i8], constant: i16, place: usize) -> u16
+    requires { place ≤ length coefficients.now }
+    ensures { result ≡ nat_abs (entry (record { coefficients = coefficients.now; constant = constant }) place) }
 {
-    let coefficients = claim.coefficients();
     if place < coefficients.len() {
         u16::from(coefficients[place].unsigned_abs())
     } else {
-        claim.constant().unsigned_abs()
+        constant.unsigned_abs()
     }
 }
 
@@ -68,18 +66,19 @@ fn row_is_times(row: &[i8], k: &[i8], d: u16) -> bool
         .all(|(y, z)| is_times(i16::from(*y), i16::from(*z), d))
 }
 
-// Is the claim a number of times this form? The constant is tested first: claims that share their coefficients differ there.
-pub fn is_multiple(claim: &HalfSpace, form: &Form, pivot: Pivot) -> bool
-    requires { IsPivot (space_of (length claim.now.coefficients) form.now.coefficients form.now.constant) pivot.place pivot.size }
-    ensures { IsTrue result ↔ IsMultiple claim.now (space_of (length claim.now.coefficients) form.now.coefficients form.now.constant) }
+// Is a claim of these coefficients and this constant a number of times this form? The constant is tested first: claims that share their
+// coefficients differ there.
+pub fn is_multiple(coefficients: &[i8], constant: i16, form: &Form, pivot: Pivot) -> bool
+    requires few { length coefficients.now ≤ 16 }
+    requires pivot { IsPivot (space_of (length coefficients.now) form.now.coefficients form.now.constant) pivot.place pivot.size }
+    ensures { IsTrue result ↔ IsMultiple (record { coefficients = coefficients.now; constant = constant }) (space_of (length coefficients.now) form.now.coefficients form.now.constant) }
 {
-    let d = factor(size_in(claim, pivot.place), pivot.size);
+    let d = factor(size_in(coefficients, constant, pivot.place), pivot.size);
     if d == 0 {
         return false;
     }
-    if !is_times(claim.constant(), form.constant, d) {
+    if !is_times(constant, form.constant, d) {
         return false;
     }
-    let coefficients = claim.coefficients();
     row_is_times(coefficients, &form.coefficients[..coefficients.len()], d)
 }

@@ -29,7 +29,7 @@ pub struct Target {
 }
 
 // A sound sheet in bytes that are lent, made by `read` alone. Callers see its contents.
-#[derive(Drop)]
+#[derive(Clone, Drop)]
 pub struct Sheet<'a> {
     bytes: &'a [u8],
     extent: Extent,

@@ -30,7 +30,8 @@ pub fn first_twin(sheet: &Sheet<'_>, number: usize) -> Option<Claim>
     let pivot = pivot_of(&form.coefficients[..half_space.places()], form.constant);
     // The number itself is the answer, so no `find` over records.
     for earlier in 1..number {
-        if is_multiple(&sheet.nth_half_space(earlier), &form, pivot) {
+        let other = sheet.nth_half_space(earlier);
+        if is_multiple(other.coefficients(), other.constant(), &form, pivot) {
             return Some(Claim(earlier));
         }
     }

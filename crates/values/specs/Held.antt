@@ -9,6 +9,12 @@ use Rattle.format.specs.Formed.{Row, IsCoefficient, FormedTransition}
 abbrev pub space_in : List ℤ → ℕ → ℤ → HalfSpace
 space_in row n c = record { coefficients = take n row; constant = c }
 
+-- numbers within the limits of a claim, whatever stands behind the first n
+pub record AreLimited (row : List ℤ) (n : ℕ) (c : ℤ) : Type 0 where
+  pub places : n ≤ 16
+  pub coefficients : Row n IsCoefficient (take n row)
+  pub constant : constant_fits c ≡ true
+
 pub record IsSpace (row : List ℤ) (n : ℕ) (c : ℤ) : Type 0 where
   pub places : n ≤ 16
   pub coefficients : Row n IsCoefficient (take n row)

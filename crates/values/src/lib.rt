@@ -9,7 +9,7 @@ pub use sums::{Amount, value_of};
 use terms::Place;
 
 // A half space over the places of a net.
-#[derive(Drop)]
+#[derive(Clone, Copy, Debug, PartialEq, Eq)]
 pub struct HalfSpace {
     // A row of the most places, since there is no heap; the first `places` of it count, and zeros stand behind them.
     row: [i8; Place::MOST],
@@ -18,7 +18,8 @@ pub struct HalfSpace {
 }
 
 impl Model for HalfSpace {
-    ghost use Rattle.nets.specs.HalfSpaces.{HalfSpace as Meant};
+    ghost use Rattle.std.specs.Prelude.{length, pos};
+    ghost use Rattle.nets.specs.HalfSpaces.{HalfSpace as Meant, sixteen};
     ghost use Rattle.values.specs.Held.{space_in, IsSpace};
 
     ghost Value = { Meant };
@@ -26,20 +27,23 @@ impl Model for HalfSpace {
     ghost view = { λ h. space_in h.row h.places h.constant };
 
     ghost invariant = { λ h. IsSpace h.row h.places h.constant };
+
+    ghost inverse = { λ m. record { row = sixteen (pos 0) m.coefficients; places = length m.coefficients; constant = m.constant } };
 }
 
 impl HalfSpace {
     ghost use Rattle.std.specs.Prelude.{◌≡◌, ◌≤◌, length, map, pos};
     ghost use Rattle.nets.specs.HalfSpaces.{value, sixteen};
-    ghost use Rattle.values.specs.Held.{space_in, IsSpace};
+    ghost use Rattle.values.specs.Held.{space_in, AreLimited};
     ghost use Rattle.format.specs.Formed.{All, IsCoefficient};
     ghost use Rattle.values.specs.Range.{Constants, Values};
 
-    // The first of sixteen coefficients count; those beyond are zero.
-    pub fn new(row: [i8; Place::MOST], places: usize, constant: i16) -> HalfSpace
-        requires { IsSpace row places constant }
+    // The first of sixteen coefficients count, whatever stands behind them.
+    pub fn new(mut row: [i8; Place::MOST], places: usize, constant: i16) -> HalfSpace
+        requires { AreLimited row places constant }
         ensures { result ≡ space_in row places constant }
     {
+        row[places..].fill(0);
         HalfSpace {
             row,
             places,
@@ -108,7 +112,7 @@ impl HalfSpace {
 }
 
 // The weights of a transition, one taken and one put for each place. They stay where they stand in the bytes that were lent.
-#[derive(Drop)]
+#[derive(Clone, Drop)]
 pub struct Arcs<'a> {
     taken: &'a [u8],
     put: &'a [u8],

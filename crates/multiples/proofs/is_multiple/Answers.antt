@@ -1,9 +1,10 @@
 -- `is_multiple` meets its contract: a multiple is one at the number that the pivot shows, so the constant and the row decide at that number.
 use mathlib.Core.Path.{◌≡◌, sym, ap, ◌∙◌}
+use mathlib.Core.List.{List}
 use mathlib.Core.Logic.{◌↔◌}
 use native.Mathlib.Omega.{arith}
 use Prim.Native.Nat.{ℕ}
-use lib.IntN.{pos, nat_abs, ◌*ℤ◌}
+use lib.IntN.{ℤ, pos, nat_abs, ◌*ℤ◌}
 use lib.ListN.{length}
 use mir.Syntax.{w16}
 use mir.Val.{to_z, of_z}
@@ -12,46 +13,50 @@ use Rattle.std.proofs.lemmas.Int.{ints}
 use Rattle.std.proofs.lemmas.Bool.{false≢true}
 use Rattle.nets.specs.HalfSpaces.{HalfSpace}
 use Rattle.reduction.specs.Divisors.{space_of}
-use Rattle.reduction.proofs.Scaled.{times}
 use Rattle.multiples.specs.Multiples.{entry, factor_of}
 use Rattle.multiples.proofs.Scaled.{no_factor, other_constant, by_row}
 use Rattle.multiples.proofs.is_multiple.Goals as goal
 use Rattle.multiples.proofs.is_multiple.Goals.{After-factor-d, After-is_times}
 
-factor_is : (c : After-factor-d) → c.factor-d.result ≡ factor_of (nat_abs (entry c.args.claim.now c.args.pivot.place)) c.args.pivot.size
-factor_is c = c.factor-d.ensures ∙ ap (λ (x : ℕ). factor_of x c.args.pivot.size) c.size_in.ensures
+-- the claim, as its coefficients and its constant
+abbrev claimed : List ℤ → ℤ → HalfSpace
+claimed ks k = record { coefficients = ks; constant = k }
+
+factor_is : (c : After-factor-d) → c.factor-d.result ≡ factor_of (nat_abs (entry (claimed c.args.coefficients.now c.args.constant) c.args.pivot.place)) c.args.pivot.size
+factor_is c =
+    let theirs : to_z w16 (of_z w16 c.args.constant) ≡ c.args.constant = omega (arith, ints) in
+    c.factor-d.ensures ∙ ap (λ (x : ℕ). factor_of x c.args.pivot.size) (rw theirs at c.size_in.ensures)
 
 -- the test of the constant
-constant_told : (c : After-is_times) → IsTrue c.is_times.result ↔ (c.args.claim.now.constant ≡ c.args.form.now.constant *ℤ pos c.factor-d.result)
+constant_told : (c : After-is_times) → IsTrue c.is_times.result ↔ (c.args.constant ≡ c.args.form.now.constant *ℤ pos c.factor-d.result)
 constant_told c =
-    let theirs : to_z w16 (of_z w16 c.constant.result) ≡ c.constant.result = omega (arith, ints) in
+    let theirs : to_z w16 (of_z w16 c.args.constant) ≡ c.args.constant = omega (arith, ints) in
     let ours : to_z w16 (of_z w16 c.args.form.now.constant) ≡ c.args.form.now.constant = omega (arith, ints) in
-    rw ours at (rw (theirs ∙ c.constant.ensures.value) at c.is_times.ensures)
+    rw ours at (rw theirs at c.is_times.ensures)
 
 pub returns-then-d-eq0 : goal.returns-then-d-eq0
 returns-then-d-eq0 c =
     let a = c.args in
-    let w : HalfSpace = a.claim.now in
+    let w = claimed a.coefficients.now a.constant in
     let d = factor_is (goal.at.returns-then-d-eq0 c).After-factor-d in
-    (λ e. absurd (false≢true e), λ m. absurd (no_factor w (space_of (length w.coefficients) a.form.now.coefficients a.form.now.constant) a.pivot.place a.pivot.size c.factor-d.result c.requires d c.if-d-eq0.true m))
+    (λ e. absurd (false≢true e), λ m. absurd (no_factor w (space_of (length w.coefficients) a.form.now.coefficients a.form.now.constant) a.pivot.place a.pivot.size c.factor-d.result c.requires.pivot d c.if-d-eq0.true m))
 
 pub returns-then-not-is_times : goal.returns-then-not-is_times
 returns-then-not-is_times c =
     let a = c.args in
-    let w : HalfSpace = a.claim.now in
+    let w = claimed a.coefficients.now a.constant in
     let d = factor_is (goal.at.returns-then-not-is_times c).After-factor-d in
     let told = constant_told (goal.at.returns-then-not-is_times c).After-is_times in (
       λ e. absurd (false≢true e),
       λ m.
-          absurd (other_constant w (space_of (length w.coefficients) a.form.now.coefficients a.form.now.constant) a.pivot.place a.pivot.size c.factor-d.result c.requires d (λ e. false≢true (sym c.if-not-is_times.true ∙ told.1 e)) m),
+          absurd (other_constant w (space_of (length w.coefficients) a.form.now.coefficients a.form.now.constant) a.pivot.place a.pivot.size c.factor-d.result c.requires.pivot d (λ e. false≢true (sym c.if-not-is_times.true ∙ told.1 e)) m),
     )
 
 pub returns : goal.returns
 returns c =
     let a = c.args in
-    let w : HalfSpace = a.claim.now in
+    let w = claimed a.coefficients.now a.constant in
     let r : HalfSpace = space_of (length w.coefficients) a.form.now.coefficients a.form.now.constant in
     let d = factor_is (goal.at.returns c).After-factor-d in
     let constant = (constant_told (goal.at.returns c).After-is_times).0 c.if-not-is_times.false in
-    let row : IsTrue c.row_is_times.result ↔ (w.coefficients ≡ times c.factor-d.result r.coefficients) = rw c.coefficients-coefficients.ensures.value at c.row_is_times.ensures in
-    by_row w r a.pivot.place a.pivot.size c.factor-d.result c.requires d c.row_is_times.result (omega arith) constant row
+    by_row w r a.pivot.place a.pivot.size c.factor-d.result c.requires.pivot d c.row_is_times.result (omega arith) constant c.row_is_times.ensures

@@ -1,5 +1,5 @@
 -- `first_twin` meets its contract: the claims that were passed are no twins, since a twin is a multiple of the reduced form, and the first multiple is the lowest twin.
-use mathlib.Core.Path.{◌≡◌, sym, ap, ap₂, ◌∙◌}
+use mathlib.Core.Path.{◌≡◌, sym, ap, ◌∙◌}
 use mathlib.Core.List.{List}
 use mathlib.Core.Logic.{◌↔◌}
 use native.Mathlib.Omega.{arith}
@@ -12,6 +12,7 @@ use Rattle.std.proofs.lemmas.Int.{ints}
 use Rattle.std.proofs.lemmas.Bool.{false≢true}
 use Rattle.nets.specs.HalfSpaces.{HalfSpace}
 use Rattle.nets.specs.Reduced.{IsReduced, Twins}
+use Rattle.values.proofs.Same.{same_space}
 use Rattle.reduction.specs.Divisors.{space_of}
 use Rattle.format.specs.Contents.{half_space, claim}
 use Rattle.multiples.specs.Multiples.{IsMultiple}
@@ -32,10 +33,13 @@ told c =
     let r : HalfSpace = space_of (length w.coefficients) f.coefficients f.constant in
     let row = c.coefficients.ensures.value ∙ ap (λ (k : HalfSpace). k.coefficients) c.nth_half_space-half_space.ensures.value in
     let last : to_z w16 (of_z w16 c.constant.result) ≡ c.constant.result = omega (arith, ints) in
-    let theirs : ◌≡◌ {A = HalfSpace} (record { coefficients = c.coefficients.result.now; constant = to_z w16 (of_z w16 c.constant.result) }) h = ap₂ {C = HalfSpace} (λ (ks : List ℤ) (k : ℤ). record { coefficients = ks; constant = k }) row (last ∙ c.constant.ensures.value ∙ ap (λ (k : HalfSpace). k.constant) c.nth_half_space-half_space.ensures.value) in
-    let long : length c.coefficients.result.now ≡ length w.coefficients = ap (length {A = _}) c.coefficients.ensures.value ∙ c.nth_half_space-half_space.ensures.places ∙ sym c.nth_half_space.ensures.places ∙ ap (λ (k : HalfSpace). length k.coefficients) c.nth_half_space.ensures.value in
+    let theirs = same_space h _ _ row (last ∙ c.constant.ensures.value ∙ ap (λ (k : HalfSpace). k.constant) c.nth_half_space-half_space.ensures.value) in
+    let long : length c.coefficients.result.now ≡ length w.coefficients = ap (length {A = _}) c.coefficients.ensures.value ∙ c.nth_half_space-half_space.ensures.places ∙ sym c.nth_half_space-other.ensures.places ∙ ap (λ (k : HalfSpace). length k.coefficients) c.nth_half_space-other.ensures.value in
     let form : IsReduced h r = rw theirs at (rw long at c.reduced-form.ensures.0) in
-    let tells : IsTrue c.is_multiple.result ↔ IsMultiple w r = rw c.nth_half_space.ensures.value at c.is_multiple.ensures in
+    let other_last : to_z w16 (of_z w16 c.constant-in-loop-earlier.result) ≡ c.constant-in-loop-earlier.result = omega (arith, ints) in
+    let other_row : c.coefficients-in-loop-earlier.result.now ≡ w.coefficients = c.coefficients-in-loop-earlier.ensures.value ∙ ap (λ (k : HalfSpace). k.coefficients) c.nth_half_space-other.ensures.value in
+    let other = same_space w _ _ other_row (other_last ∙ c.constant-in-loop-earlier.ensures.value ∙ ap (λ (k : HalfSpace). k.constant) c.nth_half_space-other.ensures.value) in
+    let tells : IsTrue c.is_multiple.result ↔ IsMultiple w r = rw (ap (λ (ks : List ℤ). length ks) other_row) at (rw other at c.is_multiple.ensures) in
     told_twins h w r form c.is_multiple.result tells
 
 pub returns-then-is_multiple : goal.returns-then-is_multiple
