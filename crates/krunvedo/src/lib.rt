@@ -70,7 +70,13 @@ pub extern "C" fn krunvedo_claim_check(sheet: &[u8], i: usize) -> Refused
 pub extern "C" fn krunvedo_claim_record(sheet: &[u8], i: usize) -> Record
     ensures { result ≡ record_of (reading sheet.now) (record { 0 = i }) }
 {
-    Record::from(claims::record_range(sheet, Claim(i)))
+    let told = Record::from(claims::record_range(sheet, Claim(i)));
+    let part = claims::claim_record(sheet, Claim(i));
+    Record {
+        refusal: told.refusal,
+        offset: told.offset,
+        length: part.len(),
+    }
 }
 
 // The transition stands last: with it before the areas, one register would be left for the pointer and the length of `marks`. C then
