@@ -23,7 +23,7 @@ fn meets(table: &[u16], lo: i32, hi: i32) -> bool
     let first = lo.max(0) as usize;
     let mut r = first % table.len();
     // Not an iterator over the table: v is the value asked for, and r goes round beside it.
-    for v in first..=hi as usize {
+    for v in first..hi as usize + 1 {
         if usize::from(table[r]) <= v {
             return true;
         }
