@@ -58,7 +58,7 @@ module _ (x : Contents) (f : Formed x) where
         ap (λ (ms : List ℕ). (codes "broken " ++ decimal t) ++ tokens_text ms) (take_at m (replicate (16 - length m) 0) x.setting.net.places long)
     same_text proof i = refl
 
-lines_next : (x : Contents) (i : ℕ) (before line : List ℕ) → AreLines x i before → IsLine x (suc i) line → AreLines x (suc i) (before ++ line)
+pub lines_next : (x : Contents) (i : ℕ) (before line : List ℕ) → AreLines x i before → IsLine x (suc i) line → AreLines x (suc i) (before ++ line)
 unfolding AreLines
 lines_next x i before line a l = (before, line, a, l, refl)
 

@@ -369,7 +369,7 @@ impl From<Result<Answer, Refusal>> for Paired {
     }
 }
 
-fn verdict_number(verdict: Judged) -> u8
+pub fn verdict_number(verdict: Judged) -> u8
     ensures { result ≡ verdict_number verdict }
 {
     match verdict {
@@ -380,7 +380,7 @@ fn verdict_number(verdict: Judged) -> u8
     }
 }
 
-fn verdict_transition(verdict: Judged) -> usize
+pub fn verdict_transition(verdict: Judged) -> usize
     ensures { result ≡ verdict_transition verdict }
 {
     match verdict {

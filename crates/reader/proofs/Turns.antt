@@ -39,7 +39,7 @@ module _ (s : List ℕ) (n at k t : ℕ) where
 abbrev pub counted_from : ℕ → Read (List Claim) → Read ℕ
 counted_from before x = map_ok (λ is. before + length is) x
 
-from_none : (x : Read (List Claim)) → map_ok length x ≡ counted_from 0 x
+pub from_none : (x : Read (List Claim)) → map_ok length x ≡ counted_from 0 x
 from_none (Ok is) = ap (λ (k : ℕ). Ok k) (omega arith)
 from_none (Err r) = refl
 

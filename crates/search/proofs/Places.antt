@@ -25,10 +25,10 @@ module _ (lo hi m s z : ℤ) (M : Length m) (S : Roomy lo hi m s) (most : z ≡ 
   size : z ≤ℤ pos 19900
   size = omega (arith, ints, clamps, S.high, S.high_lo, M.most)
 
-  size_low : pos 0 ≤ℤ z
+  pub size_low : pos 0 ≤ℤ z
   size_low = omega (arith, ints, S.low, start_in)
 
-  hi_low : pos 0 ≤ℤ (s +ℤ hi)
+  pub hi_low : pos 0 ≤ℤ (s +ℤ hi)
   hi_low = omega (arith, ints, S.low_hi, M.least)
 
   pub in_place : Placed lo hi m (record { start = nat_abs s; size = nat_abs z; window = record { lo = nat_abs (s +ℤ lo); hi = nat_abs (s +ℤ hi) } })

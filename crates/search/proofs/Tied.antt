@@ -6,9 +6,10 @@ use native.Mathlib.Omega.{arith}
 use lib.IntN.{ℤ, pos, ◌*ℤ◌}
 use lib.ListN.{length, take, length-map}
 use lib.Seq.{length-take-le}
+use lib.Signed.{◌<ℤ◌}
 use Rattle.std.proofs.Common.{Option, Some, None}
 use Rattle.std.specs.Prelude.{IfSome}
-use Rattle.signed.specs.Parts.{positive_part, negative_part, add_parts, positive_part-mul, negative_part-mul, le_in, le_out}
+use Rattle.signed.specs.Parts.{positive_part, negative_part, add_parts, positive_part-mul, negative_part-mul, le_in, le_out, lt_in}
 use Rattle.nets.specs.HalfSpaces.{value}
 use Rattle.sums.specs.Sum.{total, dot, ups, downs, Hits}
 use Rattle.trails.specs.Led.{Leads}
@@ -60,3 +61,7 @@ module _ (ks : List ℤ) (lo hi m : ℤ) (t : Table) (T : Placed lo hi m t) wher
         bound = omega (arith, l.bound);
       }
   looked n b None e l = λ z h. l z (from_whole z h)
+
+-- a window that ends below its start holds nothing
+pub crossed : (ks : List ℤ) (lo hi : ℤ) → hi <ℤ lo → (z : List ℕ) → Hit ks lo hi z → ⊥
+crossed ks lo hi l z h = omega (arith, lt_in l, le_in h.low, le_in h.high)

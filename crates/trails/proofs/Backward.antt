@@ -142,7 +142,7 @@ module _ (ks : List ℤ) (m q : List ℕ) (start h : ℕ) (Z : Sizes ks m q) (E 
               level = λ F. omega (arith, B.level F, (f F).deeper, F.seen.state.sorted (index q w') (f F).at (lower F) (omega (arith, (f F).earlier, early F)));
             }
 
-        hopped : Hop ks m q start h x w p
+        pub hopped : Hop ks m q start h x w p
         hopped =
             record {
               inside = omega (arith, (f E).inside, named E);
