@@ -24,7 +24,8 @@ new-requires c =
     let at = c.behind_transitions-from.result in
     let few : c.args.number ≤ s.extent.transitions = omega (arith, transitions_count s.bytes.now _ c.self.invariant.known, ap (λ x. length x.setting.net.transitions) c.self.view_is) in
     let whole = weights_whole s.bytes.now _ c.self.invariant.known c.args.number c.requires.0 few at c.behind_transitions-from.ensures.0 in
-    (arcs s.bytes.now _ c.self.invariant.known c.self.invariant.bytes c.args.number c.requires.0 few at c.behind_transitions-from.ensures.0 _ _ (part_bytes s.bytes.now (at + 2) n _ (omega arith) (omega (arith, whole))) (part_bytes s.bytes.now (at + 2 + n) n _ (omega arith) whole)).0
+    let both = arcs s.bytes.now _ c.self.invariant.known c.self.invariant.bytes c.args.number c.requires.0 few at c.behind_transitions-from.ensures.0 _ _ (part_bytes s.bytes.now (at + 2) n _ (omega arith) (omega (arith, whole))) (part_bytes s.bytes.now (at + 2 + n) n _ (omega arith) whole) in
+    both.0
 
 pub returns-clause-value : goal.returns-clause-value
 returns-clause-value c =
