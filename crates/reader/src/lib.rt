@@ -4,7 +4,7 @@
 mod runs; // runs.rt: the records of a sheet, from its head on
 mod scan; // scan.rt: the whole sheet, from its parts
 
-use amounts::Kind;
+use amounts::{Constant, Kind};
 use layout::Extent;
 use refusals::Refusal;
 use rows::{numbers_at, tokens_from};
@@ -48,7 +48,8 @@ impl<'a> Model for Sheet<'a> {
 }
 
 impl<'a> Sheet<'a> {
-    ghost use Rattle.std.specs.Prelude.{◌≡◌, ◌≤◌, length, IfOk};
+    ghost use Rattle.std.specs.Prelude.{◌≡◌, ◌≤◌, length, map, IfOk};
+    ghost use Rattle.signed.specs.Twos.{twos8};
     ghost use Rattle.nets.specs.Nets.{transition};
     ghost use Rattle.nets.specs.HalfSpaces.{sixteen};
     ghost use Rattle.format.specs.Contents.{half_space, claim};
@@ -122,6 +123,26 @@ impl<'a> Sheet<'a> {
         let at = self.extent.behind_claims(number - 1);
         let numbers = numbers_at(self.bytes, at, self.extent.places);
         HalfSpace::new(numbers.coefficients, self.extent.places, numbers.constant)
+    }
+
+    // The bytes that spell its coefficients, as they stand in the sheet.
+    pub fn nth_row(&self, number: usize) -> &'a [u8]
+        requires { (1 ≤ number) × (number ≤ length self.now.claims) }
+        ensures value { map twos8 result.now ≡ (half_space (claim self.now number)).coefficients }
+        ensures places { length result.now ≡ self.now.setting.net.places }
+    {
+        let at = self.extent.behind_claims(number - 1);
+        &self.bytes[at + 2..at + 2 + self.extent.places]
+    }
+
+    // And its constant.
+    pub fn nth_constant(&self, number: usize) -> i16
+        requires { (1 ≤ number) × (number ≤ length self.now.claims) }
+        ensures { result ≡ (half_space (claim self.now number)).constant }
+    {
+        let at = self.extent.behind_claims(number - 1);
+        let low = at + 2 + self.extent.places;
+        Constant::from([self.bytes[low], self.bytes[low + 1]]).0
     }
 
     // The weights of a transition.

@@ -2,21 +2,28 @@
 use mathlib.Core.Path.{◌≡◌, sym, ap, ◌∙◌}
 use native.Mathlib.Omega.{arith}
 use lib.IntN.{pos, nat_abs}
-use lib.ListN.{length, get_or}
+use mathlib.Core.List.{map}
+use lib.ListN.{length, get_or, length-map}
 use Rattle.std.proofs.lemmas.Int.{ints}
 use Rattle.nets.specs.HalfSpaces.{HalfSpace}
 use Rattle.multiples.proofs.Entries.{entry_row, entry-constant}
+use Rattle.multiples.proofs.Rows.{told_at}
 use Rattle.multiples.proofs.size_in.Goals as goal
 
 pub returns-then-place-coefficients : goal.returns-then-place-coefficients
-returns-then-place-coefficients c =
-    let w : HalfSpace = record { coefficients = c.args.coefficients.now; constant = c.args.constant } in
-    let size : c.from.result ≡ nat_abs (get_or c.args.coefficients.now c.args.place (pos 0)) = omega (arith, ints) in
-    size ∙ ap nat_abs (sym (entry_row w c.args.place c.if-place-coefficients.true))
+returns-then-place-coefficients g c =
+    let told = g.K.AsCoefficient.coefficient in
+    let ks = c.args.coefficients.now in
+    let w : HalfSpace = record { coefficients = map told ks; constant = c.args.constant } in
+    let there : c.coefficient.result ≡ get_or (map told ks) c.args.place (pos 0) = c.coefficient.ensures ∙ ap told c.index-coefficients-place.is ∙ sym (told_at told ks c.args.place _ c.if-place-coefficients.true) in
+    let size : c.from.result ≡ nat_abs (get_or (map told ks) c.args.place (pos 0)) = omega (arith, ints, there) in
+    size ∙ ap nat_abs (sym (entry_row w c.args.place (omega (arith, length-map ks told))))
 
 pub returns-else-place-coefficients : goal.returns-else-place-coefficients
-returns-else-place-coefficients c =
-    let w : HalfSpace = record { coefficients = c.args.coefficients.now; constant = c.args.constant } in
-    let last : length c.args.coefficients.now ≡ c.args.place = omega arith in
+returns-else-place-coefficients g c =
+    let told = g.K.AsCoefficient.coefficient in
+    let ks = c.args.coefficients.now in
+    let w : HalfSpace = record { coefficients = map told ks; constant = c.args.constant } in
+    let last : length (map told ks) ≡ c.args.place = omega (arith, length-map ks told) in
     let size : c.unsigned_abs-else-place-coefficients.result ≡ nat_abs c.args.constant = omega (arith, ints) in
     size ∙ ap nat_abs (sym (entry-constant w c.args.place last))

@@ -1,9 +1,7 @@
 -- `first_twin` meets its contract: the claims that were passed are no twins, since a twin is a multiple of the reduced form, and the first multiple is the lowest twin.
 use mathlib.Core.Path.{◌≡◌, sym, ap, ◌∙◌}
-use mathlib.Core.List.{List}
 use mathlib.Core.Logic.{◌↔◌}
 use native.Mathlib.Omega.{arith}
-use lib.IntN.{ℤ}
 use lib.ListN.{length}
 use mir.Syntax.{w16}
 use mir.Val.{to_z, of_z}
@@ -30,16 +28,15 @@ told c =
     let h : HalfSpace = half_space (claim c.args.sheet.now c.args.number) in
     let w : HalfSpace = half_space (claim c.args.sheet.now c.loop-earlier.earlier) in
     let f = c.reduced-form.result in
-    let r : HalfSpace = space_of (length w.coefficients) f.coefficients f.constant in
+    let r : HalfSpace = space_of (length c.nth_row.result.now) f.coefficients f.constant in
     let row = c.coefficients.ensures.value ∙ ap (λ (k : HalfSpace). k.coefficients) c.nth_half_space-half_space.ensures.value in
     let last : to_z w16 (of_z w16 c.constant.result) ≡ c.constant.result = omega (arith, ints) in
     let theirs = same_space h _ _ row (last ∙ c.constant.ensures.value ∙ ap (λ (k : HalfSpace). k.constant) c.nth_half_space-half_space.ensures.value) in
-    let long : length c.coefficients.result.now ≡ length w.coefficients = ap (length {A = _}) c.coefficients.ensures.value ∙ c.nth_half_space-half_space.ensures.places ∙ sym c.nth_half_space-other.ensures.places ∙ ap (λ (k : HalfSpace). length k.coefficients) c.nth_half_space-other.ensures.value in
+    let long : length c.coefficients.result.now ≡ length c.nth_row.result.now = ap (length {A = _}) c.coefficients.ensures.value ∙ c.nth_half_space-half_space.ensures.places ∙ sym c.nth_row.ensures.places in
     let form : IsReduced h r = rw theirs at (rw long at c.reduced-form.ensures.0) in
-    let other_last : to_z w16 (of_z w16 c.constant-in-loop-earlier.result) ≡ c.constant-in-loop-earlier.result = omega (arith, ints) in
-    let other_row : c.coefficients-in-loop-earlier.result.now ≡ w.coefficients = c.coefficients-in-loop-earlier.ensures.value ∙ ap (λ (k : HalfSpace). k.coefficients) c.nth_half_space-other.ensures.value in
-    let other = same_space w _ _ other_row (other_last ∙ c.constant-in-loop-earlier.ensures.value ∙ ap (λ (k : HalfSpace). k.constant) c.nth_half_space-other.ensures.value) in
-    let tells : IsTrue c.is_multiple.result ↔ IsMultiple w r = rw (ap (λ (ks : List ℤ). length ks) other_row) at (rw other at c.is_multiple.ensures) in
+    let other_last : to_z w16 (of_z w16 c.nth_constant-constant.result) ≡ c.nth_constant-constant.result = omega (arith, ints) in
+    let other = same_space w _ _ c.nth_row.ensures.value (other_last ∙ c.nth_constant-constant.ensures) in
+    let tells : IsTrue c.is_multiple.result ↔ IsMultiple w r = rw other at c.is_multiple.ensures in
     told_twins h w r form c.is_multiple.result tells
 
 pub returns-then-is_multiple : goal.returns-then-is_multiple
