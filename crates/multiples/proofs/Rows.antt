@@ -3,13 +3,14 @@ use mathlib.Core.Path.{◌≡◌, refl, sym, ap, ◌∙◌}
 use mathlib.Core.Bool.{Bool, true, false}
 use mathlib.Core.List.{List, [], ◌∷◌, map}
 use mathlib.Core.Logic.{◌↔◌}
-use Prim.Native.Nat.{ℕ, zero, suc, ◌<◌}
+use Prim.Native.Nat.{ℕ, ◌<◌}
 use native.Mathlib.Omega.{arith}
 use lib.IntN.{ℤ, pos, ◌*ℤ◌}
 use lib.ListN.{length, get_or, length-map}
 use lib.Seq.{ext_get_or}
 use Rattle.std.specs.Prelude.{IsTrue}
 use Rattle.std.proofs.lemmas.Bool.{false≢true}
+use Rattle.std.proofs.lemmas.List.{get_or-map}
 use Rattle.std.specs.Bool.{MatchBool}
 use Rattle.std.specs.List.{HoldsAt, AllWithin, zip}
 use Rattle.std.proofs.lemmas.Slice.Zip.{length-zip, get_or-zip}
@@ -21,14 +22,10 @@ abbrev pub Agree : {A : Type 0} → (A → ℤ) → ℕ → A × ℤ → Type 0
 Agree told d p = told p.0 ≡ p.1 *ℤ pos d
 
 module _ {A : Type 0} (told : A → ℤ) where
+  -- an element, for a place that is there
   one_of : (xs : List A) → 0 < length xs → A
   one_of [] l = absurd (omega arith)
   one_of (x ∷ xs) l = x
-
-  pub told_at : (xs : List A) (q : ℕ) (a : A) → q < length xs → get_or (map told xs) q (pos 0) ≡ told (get_or xs q a)
-  told_at [] q a l = absurd (omega arith)
-  told_at (x ∷ xs) zero a l = refl
-  told_at (x ∷ xs) (suc q) a l = told_at xs q a (omega arith)
 
   module _ (d : ℕ) (xs : List A) (ks : List ℤ) (long : length xs ≡ length ks) where
     many : length (zip xs ks) ≡ length xs
@@ -44,8 +41,8 @@ module _ {A : Type 0} (told : A → ℤ) where
         each q m =
             let l : q < length xs = omega (arith, m, length-map xs told) in
             let a = one_of xs (omega (arith, l)) in
-            told_at xs q a l ∙ rw (pair q a l) at (all q (a, pos 0) (omega arith) (omega (arith, many))) ∙ sym (times_at d ks q)
+            get_or-map told xs q a (pos 0) l ∙ rw (pair q a l) at (all q (a, pos 0) (omega arith) (omega (arith, many))) ∙ sym (times_at d ks q)
     rows_told false w =
         let l : w.0 < length xs = omega (arith, w.1, many) in
         let a = one_of xs (omega (arith, l)) in
-        (λ e. absurd (false≢true e), λ same. absurd (rw (pair w.0 a l) at (w.2 (a, pos 0)) (sym (told_at xs w.0 a l) ∙ ap (λ (r : List ℤ). get_or r w.0 (pos 0)) same ∙ times_at d ks w.0)))
+        (λ e. absurd (false≢true e), λ same. absurd (rw (pair w.0 a l) at (w.2 (a, pos 0)) (sym (get_or-map told xs w.0 a (pos 0) l) ∙ ap (λ (r : List ℤ). get_or r w.0 (pos 0)) same ∙ times_at d ks w.0)))

@@ -125,7 +125,7 @@ impl<'a> Sheet<'a> {
         HalfSpace::new(numbers.coefficients, self.extent.places, numbers.constant)
     }
 
-    // The bytes that spell its coefficients, as they stand in the sheet.
+    // The bytes that spell a claim's coefficients, as they stand in the sheet, where the number is known to be a claim's.
     pub fn nth_row(&self, number: usize) -> &'a [u8]
         requires { (1 ≤ number) × (number ≤ length self.now.claims) }
         ensures value { map twos8 result.now ≡ (half_space (claim self.now number)).coefficients }
@@ -135,7 +135,7 @@ impl<'a> Sheet<'a> {
         &self.bytes[at + 2..at + 2 + self.extent.places]
     }
 
-    // And its constant.
+    // A claim's constant, where the number is known to be a claim's.
     pub fn nth_constant(&self, number: usize) -> i16
         requires { (1 ≤ number) × (number ≤ length self.now.claims) }
         ensures { result ≡ (half_space (claim self.now number)).constant }

@@ -28,10 +28,11 @@ pub fn first_twin(sheet: &Sheet<'_>, number: usize) -> Option<Claim>
     let half_space = sheet.nth_half_space(number);
     let form = reduced(half_space.coefficients(), half_space.constant());
     let pivot = pivot_of(&form.coefficients[..half_space.places()], form.constant);
-    // The number itself is the answer, so no `find` over records. An earlier claim is looked at where it stands: most differ at once.
+    // The number itself is the answer, so no `find` over records. An earlier claim is looked at where it stands: most differ at the first number.
     for earlier in 1..number {
+        let row = sheet.nth_row(earlier);
         let constant = sheet.nth_constant(earlier);
-        if is_multiple(sheet.nth_row(earlier), constant, &form, pivot) {
+        if is_multiple(row, constant, &form, pivot) {
             return Some(Claim(earlier));
         }
     }

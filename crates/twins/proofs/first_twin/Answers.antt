@@ -28,14 +28,14 @@ told c =
     let h : HalfSpace = half_space (claim c.args.sheet.now c.args.number) in
     let w : HalfSpace = half_space (claim c.args.sheet.now c.loop-earlier.earlier) in
     let f = c.reduced-form.result in
-    let r : HalfSpace = space_of (length c.nth_row.result.now) f.coefficients f.constant in
+    let r : HalfSpace = space_of (length c.nth_row-row.result.now) f.coefficients f.constant in
     let row = c.coefficients.ensures.value ∙ ap (λ (k : HalfSpace). k.coefficients) c.nth_half_space-half_space.ensures.value in
     let last : to_z w16 (of_z w16 c.constant.result) ≡ c.constant.result = omega (arith, ints) in
     let theirs = same_space h _ _ row (last ∙ c.constant.ensures.value ∙ ap (λ (k : HalfSpace). k.constant) c.nth_half_space-half_space.ensures.value) in
-    let long : length c.coefficients.result.now ≡ length c.nth_row.result.now = ap (length {A = _}) c.coefficients.ensures.value ∙ c.nth_half_space-half_space.ensures.places ∙ sym c.nth_row.ensures.places in
+    let long : length c.coefficients.result.now ≡ length c.nth_row-row.result.now = ap (length {A = _}) c.coefficients.ensures.value ∙ c.nth_half_space-half_space.ensures.places ∙ sym c.nth_row-row.ensures.places in
     let form : IsReduced h r = rw theirs at (rw long at c.reduced-form.ensures.0) in
     let other_last : to_z w16 (of_z w16 c.nth_constant-constant.result) ≡ c.nth_constant-constant.result = omega (arith, ints) in
-    let other = same_space w _ _ c.nth_row.ensures.value (other_last ∙ c.nth_constant-constant.ensures) in
+    let other = same_space w _ _ c.nth_row-row.ensures.value (other_last ∙ c.nth_constant-constant.ensures) in
     let tells : IsTrue c.is_multiple.result ↔ IsMultiple w r = rw other at c.is_multiple.ensures in
     told_twins h w r form c.is_multiple.result tells
 
