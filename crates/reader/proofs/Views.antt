@@ -1,12 +1,13 @@
 -- What the views of a sheet give: its target, a claim and a transition, of numbers that a sheet can hold.
-use mathlib.Core.Path.{◌≡◌, refl, ap, ap₂, ◌∙◌}
+use mathlib.Core.Path.{◌≡◌, refl, sym, ap, ap₂, ◌∙◌}
 use mathlib.Core.Bool.{Bool, true, false}
 use mathlib.Core.List.{List}
 use Prim.Native.Nat.{ℕ, ◌+◌, ◌-◌, ◌*◌, ◌≤◌}
 use native.Mathlib.Omega.{arith}
 use lib.Dec.{eqb}
 use lib.IntN.{ℤ, pos}
-use lib.ListN.{length}
+use lib.ListN.{length, take}
+use lib.Seq.{take_at}
 use Rattle.amounts.specs.Kinds.{kind_of_byte}
 use Rattle.nets.specs.Nets.{transition}
 use Rattle.nets.specs.HalfSpaces.{HalfSpace, sixteen}
@@ -14,7 +15,8 @@ use Rattle.format.specs.Contents.{half_space, claim}
 use Rattle.format.specs.Formed.{IsSheet}
 use Rattle.format.specs.Reading.{bytes, kind_of, size_of, claim_in, claims_from, claim_size, transitions_from, transition_size}
 use Rattle.format.proofs.Standing.{length-bytes}
-use Rattle.values.specs.Held.{space_in, AreLimited, arcs_in, AreArcs}
+use Rattle.rows.proofs.Rows.{length_signed}
+use Rattle.values.specs.Held.{space_in, IsSpace, arcs_in, AreArcs}
 use Rattle.reader.specs.declared.Counts.{Counts}
 use Rattle.reader.specs.Known.{Known, contents_of}
 use Rattle.reader.specs.Targets.{kind_is}
@@ -30,14 +32,16 @@ kinds-agree b = by_test (eqb b 0) refl
 module _ (s : List ℕ) (k : Counts) (q : Known s k) (small : IsSheet s) where
   -- sixteen coefficients and a constant, as they are taken from a claim's record
   pub space : (i : ℕ) → 1 ≤ i → i ≤ k.claims → (from : ℕ) → from ≡ claims_from (size_of k.places k.transitions) + (i - 1) * claim_size k.places → (row : List ℤ) (c : ℤ) → row ≡ sixteen (pos 0) (claim_in s k.places from).coefficients → c ≡ (claim_in s k.places from).constant
-      → AreLimited row k.places c × (space_in row k.places c ≡ half_space (claim (contents_of s) i))
+      → IsSpace row k.places c × (space_in row k.places c ≡ half_space (claim (contents_of s) i))
   space i some few from is row c r e =
       let same = space_is s k q i some few from is row c r e in
-      let f = formed_claim s k q small i some few in (
+      let f = formed_claim s k q small i some few in
+      let first : take k.places row ≡ (claim_in s k.places from).coefficients = ap (take k.places) r ∙ take_at _ _ k.places (length_signed s (from + 2) k.places) in (
         record {
           places = (limits s k q).0;
           coefficients = rw (ap (λ (h : HalfSpace). h.coefficients) same) f.coefficients;
           constant = rw (ap (λ (h : HalfSpace). h.constant) same) f.constant;
+          beyond = r ∙ ap (sixteen (pos 0)) (sym first);
         },
         same,
       )

@@ -122,7 +122,7 @@ impl<'a> Sheet<'a> {
     {
         let at = self.extent.behind_claims(number - 1);
         let numbers = numbers_at(self.bytes, at, self.extent.places);
-        HalfSpace::new(numbers.coefficients, self.extent.places, numbers.constant)
+        HalfSpace::of_sixteen(numbers.coefficients, self.extent.places, numbers.constant)
     }
 
     // The bytes that spell a claim's coefficients, as they stand in the sheet, where the number is known to be a claim's.

@@ -40,7 +40,8 @@ impl<'a> Writer<'a> {
         self.len
     }
 
-    // Bytes as they are.
+    // Bytes as they are. Inlined, as `put_labelled` is: bytes that are known there are stored a word at a time, and not one by one.
+    #[inline(always)]
     pub fn put(&mut self, bytes: &[u8])
         requires { HasRoom (length bytes.now) self.old }
         ensures { Puts bytes.now self.old self.new }
@@ -61,6 +62,7 @@ impl<'a> Writer<'a> {
     }
 
     // A word and a number behind it.
+    #[inline(always)]
     pub fn put_labelled(&mut self, word: &[u8], n: usize)
         requires { HasRoom (length word.now + length (decimal n)) self.old }
         ensures { Puts (word.now ++ decimal n) self.old self.new }

@@ -34,7 +34,7 @@ impl Model for HalfSpace {
 impl HalfSpace {
     ghost use Rattle.std.specs.Prelude.{◌≡◌, ◌≤◌, length, map, pos};
     ghost use Rattle.nets.specs.HalfSpaces.{value, sixteen};
-    ghost use Rattle.values.specs.Held.{space_in, AreLimited};
+    ghost use Rattle.values.specs.Held.{space_in, AreLimited, IsSpace};
     ghost use Rattle.format.specs.Formed.{All, IsCoefficient};
     ghost use Rattle.values.specs.Range.{Constants, Values};
 
@@ -44,6 +44,14 @@ impl HalfSpace {
         ensures { result ≡ space_in row places constant }
     {
         row[places..].fill(0);
+        HalfSpace::of_sixteen(row, places, constant)
+    }
+
+    // The same, where zeros stand behind them.
+    pub fn of_sixteen(row: [i8; Place::MOST], places: usize, constant: i16) -> HalfSpace
+        requires { IsSpace row places constant }
+        ensures { result ≡ space_in row places constant }
+    {
         HalfSpace {
             row,
             places,

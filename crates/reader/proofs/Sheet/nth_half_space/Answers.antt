@@ -16,8 +16,8 @@ numbers_at-numbers-requires c =
     let few : c.args.number ≤ c.self.inside.claims = omega (arith, claims_count c.self.inside.bytes.now _ c.self.invariant.known, ap (λ x. length x.claims) c.self.view_is) in
     (c.self.inside.extent.most_places, omega (arith, claim_whole c.self.inside.bytes.now _ c.self.invariant.known c.args.number c.requires.0 few c.behind_claims-at.result c.behind_claims-at.ensures.0))
 
-pub new-requires : goal.new-requires
-new-requires c =
+pub of_sixteen-requires : goal.of_sixteen-requires
+of_sixteen-requires c =
     let s = c.self.inside in
     let h = c.numbers_at-numbers in
     let few : c.args.number ≤ s.claims = omega (arith, claims_count s.bytes.now _ c.self.invariant.known, ap (λ x. length x.claims) c.self.view_is) in
@@ -30,6 +30,6 @@ returns-clause-value c =
     let h = c.numbers_at-numbers in
     let few : c.args.number ≤ s.claims = omega (arith, claims_count s.bytes.now _ c.self.invariant.known, ap (λ x. length x.claims) c.self.view_is) in
     let fits : SFits w16 h.result.constant = search rules in
-    c.new.ensures
+    c.of_sixteen.ensures
     ∙ (space s.bytes.now _ c.self.invariant.known c.self.invariant.bytes c.args.number c.requires.0 few c.behind_claims-at.result c.behind_claims-at.ensures.0 h.result.coefficients _ h.ensures.coefficients_value (to_z-of_z fits ∙ h.ensures.constant_value)).1
     ∙ ap (λ x. half_space (claim x c.args.number)) c.self.view_is
