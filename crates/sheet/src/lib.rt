@@ -30,6 +30,8 @@ pub fn weights_of(bytes: &[u8], transition: Transition) -> Result<Weights, Refus
     })
 }
 
+// Not inlined, so that the sixteen numbers are handed on whole; inlined they are taken apart and put together again, a fifth of a small sheet's call.
+#[inline(never)]
 pub fn start_of(bytes: &[u8]) -> Result<[u16; Place::MOST], Refusal>
     ensures { result ≡ start_of (reading bytes.now) }
 {

@@ -23,7 +23,8 @@ pub struct Moved {
     pub marking: Marking,
 }
 
-// The sheet's start, with zeros beyond its places.
+// The sheet's start, with zeros beyond its places. Not inlined, for the reason that `start_of` of sheet gives.
+#[inline(never)]
 pub fn begin(bytes: &[u8]) -> Result<Marking, Refusal>
     ensures { result ≡ begin_of (reading bytes.now) }
 {
